@@ -1,0 +1,6 @@
+//! What every crate of the tracker stands on.
+#![tactic(auto)]
+
+mod memory;
+
+pub use memory::NoMemory;
