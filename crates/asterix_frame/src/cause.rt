@@ -1,0 +1,18 @@
+//! Why octets are no ASTERIX datagram: the causes that `Malformed` tells, and the octet whose offset each tells.
+
+/// Fewer than 3 octets are left where a block begins, but some. Told at the block's first octet.
+pub const BLOCK_SHORT: u8 = 1;
+/// A block's length is below 3 or reaches past the datagram. Told at the first octet of the length.
+pub const BLOCK_LENGTH: u8 = 2;
+/// The block ends behind an FSPEC octet with FX. Told at the block's end.
+pub const FSPEC_END: u8 = 3;
+/// A presence bit stands for an FRN that the category's table doesn't have. Told at that FSPEC octet.
+pub const SPARE_FRN: u8 = 4;
+/// The block ends before the item does. Told at the item's first octet.
+pub const ITEM_END: u8 = 5;
+/// A length octet is 0. Told at that octet.
+pub const LENGTH_ZERO: u8 = 6;
+/// A bit of a compound item's primary field has no subfield. Told at that primary octet.
+pub const UNKNOWN_SUBFIELD: u8 = 7;
+/// A time of day is a day or more. Told at the item's first octet; the readers of the categories tell it.
+pub const TIME_RANGE: u8 = 8;

@@ -1,0 +1,14 @@
+//! Data blocks, records and items of ASTERIX datagrams (EUROCONTROL ASTERIX, Part 1).
+#![tactic(auto)]
+
+mod block;
+pub mod cause;
+mod framing;
+mod writer;
+
+pub use block::{Block, BlocksError, Malformed};
+pub use framing::{blocks, first_block, one_reading};
+pub use writer::{BLOCK_LIMIT, BlockWriter, RECORD_LIMIT, one_setting};
+
+#[cfg(test)]
+mod tests;

@@ -1,0 +1,87 @@
+ghost use Rattle.std.specs.Prelude.{◌≡◌, ◌+◌, ◌<◌, ◌≤◌, ◌++◌, ◌↔◌, ℕ, List, [], length, IfOk, OnErr, false, if◌then◌else◌};
+ghost use Rattle.asterix_frame.specs.Blocks.{spelled};
+ghost use Rattle.asterix_frame.specs.Groups.{AreFilled, ungrouped};
+
+use crate::block::HEAD;
+use std::alloc::Global;
+use std::marker::Model;
+use trk_base::NoMemory;
+
+/// The octets that a block has at most: those of a datagram that is sent.
+pub const BLOCK_LIMIT: usize = 1_400;
+
+/// The octets that a record has at most.
+pub const RECORD_LIMIT: usize = 1_000;
+
+/// A data block in the making. Contracts see its category and its body so far.
+#[derive(Drop)]
+pub struct BlockWriter {
+    cat: u8,
+    // nothing, or room for the head and then the body
+    octets: Vec<u8>,
+}
+
+impl Model for BlockWriter {
+    ghost use Rattle.std.specs.Prelude.{◌≡◌, ◌<◌, ◌≤◌, [], length, drop};
+    ghost use Rattle.asterix_frame.specs.declared.writer.TheConstants.{BLOCK_LIMIT};
+    ghost use Rattle.asterix_frame.specs.Blocks.{DataBlock};
+
+    ghost Value = { DataBlock };
+
+    ghost view = { λ w. record { category = w.cat; body = drop 3 w.octets.items } };
+
+    ghost invariant = { λ w. (length w.octets.items ≤ BLOCK_LIMIT) × (length w.octets.items < 3 → w.octets.items ≡ []) };
+}
+
+impl BlockWriter {
+    /// A block without records.
+    pub fn new(alloc: Global, cat: u8) -> Self
+        ensures { result ≡ record { category = cat; body = [] } }
+    {
+        BlockWriter {
+            cat,
+            octets: Vec::new(alloc),
+        }
+    }
+
+    /// Adds one whole record. It is false, and the block as it was, exactly where the block would pass `BLOCK_LIMIT`. Without memory the block is as it was.
+    pub fn append(&mut self, octets: &[u8]) -> Result<bool, NoMemory>
+        requires some { 0 < length octets.now }
+        requires limited { length octets.now ≤ RECORD_LIMIT }
+        ensures full { (result ≡ Ok false) ↔ (BLOCK_LIMIT < length self.old.body + length octets.now + 3) }
+        ensures added { IfOk result (λ added. self.new ≡ (if added then record self.old { body = self.old.body ++ octets.now } else self.old)) }
+        ensures err { OnErr result (self.new ≡ self.old) }
+    {
+        let length = self.octets.len().max(HEAD);
+        if length + octets.len() > BLOCK_LIMIT {
+            return Ok(false);
+        }
+        if self.octets.is_empty() {
+            self.octets.extend_from_slice(&[0; HEAD])?;
+        }
+        self.octets.extend_from_slice(octets)?;
+        Ok(true)
+    }
+
+    /// The block's octets, or none where no record was added.
+    pub fn finish(self) -> Vec<u8>
+        ensures none { self.body ≡ [] → result.items ≡ [] }
+        ensures block { 0 < length self.body → result.items ≡ spelled self }
+        ensures within { length result.items ≤ BLOCK_LIMIT }
+    {
+        let BlockWriter { cat, mut octets } = self;
+        if octets.len() <= HEAD {
+            octets.clear();
+        } else {
+            let length = octets.len() as u16;
+            octets[0] = cat;
+            octets[1..HEAD].copy_from_slice(&length.to_be_bytes());
+        }
+        octets
+    }
+}
+
+/// Records have at most one setting in blocks that are filled as far as whole records go.
+pub fn one_setting()
+    ensures { (gs hs : List (List (List ℕ))) → AreFilled gs → AreFilled hs → ungrouped gs ≡ ungrouped hs → gs ≡ hs }
+{}
