@@ -1,0 +1,39 @@
+ghost use Rattle.std.specs.Prelude.{◌≡◌, ◌^◌, ◌<◌, ◌≤◌, ℕ, pos, ◌<ℤ◌, unsigned_abs};
+ghost use Rattle.trk_base.specs.Numbers.{round, isqrt, IsRoot, exp2_lin};
+
+/// `a / b`, rounded to the nearest whole number, halves upwards: -1 / 2 is 0, and 1 / 2 is 1.
+#[inline]
+pub fn round_div(a: i128, b: i128) -> i128
+    requires positive { pos 0 <ℤ b }
+    requires small_divisor { b <ℤ pos (2 ^ 125) }
+    requires small { unsigned_abs a < 2 ^ 125 }
+    ensures { result ≡ round a b }
+{
+    (2 * a + b).div_euclid(2 * b)
+}
+
+/// The greatest whole number whose square is at most `n`.
+pub fn isqrt(n: u128) -> u64
+    ensures value { result ≡ isqrt n }
+    ensures root { IsRoot n result }
+{
+    n.isqrt() as u64
+}
+
+/// Two to the power of `-q / 65,536`, in units of 2^-30: exact at whole powers, and on the chord
+/// between two of them elsewhere. It is 0 from the power -31 on.
+#[inline]
+pub fn exp2_lin(q: u64) -> u32
+    ensures value { result ≡ exp2_lin q }
+    ensures at_most_one { result ≤ 2 ^ 30 }
+
+    // A greater argument gives no greater power.
+    ensures falls { (p : ℕ) → p ≤ q → result ≤ exp2_lin p }
+{
+    let whole = q / 65_536;
+    if whole >= 31 {
+        return 0;
+    }
+    let part = q % 65_536;
+    ((1u64 << 30 >> whole) - (((1u64 << 29 >> whole) * part) >> 16)) as u32
+}
