@@ -1,5 +1,5 @@
 -- What a host in memory stands for.
-use Rattle.std.specs.Prelude.{◌≡◌, ℕ, ◌+◌, ◌-◌, ◌^◌, ◌==◌, min, Bool, true, false, if◌then◌else◌, not, ◌&&◌, List, [], ◌∷◌, map, fold, length, vec_len, Option, Some, None, option_map, string_bytes, Vec, String}
+use Rattle.std.specs.Prelude.{◌≡◌, ◌<◌, ℕ, ◌+◌, ◌-◌, ◌^◌, ◌==◌, min, Bool, true, if◌then◌else◌, not, ◌&&◌, List, [], ◌∷◌, fold, length, vec_len, Option, Some, None, option_map, string_bytes, Vec}
 use Rattle.std.specs.List.{list_any}
 use Rattle.std.specs.declared.alloc.Global.{Global}
 use Rattle.io_traits.specs.Host.{HostState}
@@ -50,6 +50,14 @@ size_of m p = vec_len (store_of m p).got
 -- the next call is one of those that are to fail
 abbrev pub fails_next : MemHost → Bool
 fails_next m = list_any (λ call. call == m.calls) m.fails.items
+
+-- no call is to fail
+abbrev pub NeverFails : MemHost → Type 0
+NeverFails m = m.fails.items ≡ []
+
+-- there is room for an octet more
+abbrev pub HasRoom : MemHost → Place → Type 0
+HasRoom m p = length (got_of m p) < size_of m p
 
 -- The call was counted. Which calls are to fail, and how much each place is to get in all, stays.
 pub record CountsCall (old new : MemHost) : Type 0 where

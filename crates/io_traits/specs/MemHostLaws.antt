@@ -1,10 +1,8 @@
 -- What always holds of a host in memory.
-use Rattle.std.specs.Prelude.{◌≡◌, ◌≢◌, ℕ, List, [], Option, Some, None, option_map, take, refl}
-use Rattle.std.specs.Option.{ForNone}
-use Rattle.std.proofs.Common.{ap, subst, sym, ◌∙◌}
-use Rattle.io_traits.specs.Host.{IsEmpty}
+use Rattle.std.specs.Prelude.{◌≡◌, ◌≢◌, [], Option, Some, None, option_map, take, refl}
+use Rattle.std.proofs.Common.{ap}
 use Rattle.io_traits.specs.Store.{store_got}
-use Rattle.io_traits.specs.MemHost.{bound_of, file_bound, got_of, state_of}
+use Rattle.io_traits.specs.MemHost.{bound_of, file_bound, got_of}
 use Rattle.io_traits.specs.declared.host.Place.{Place}
 use Rattle.io_traits.specs.declared.host.Place.TheVariants.{Settings, Input, Output, Prices, Screen}
 use Rattle.io_traits.specs.declared.mem_host.file.File.{File}

@@ -2,12 +2,13 @@
 //! and over real files.
 #![tactic(auto)]
 
-
 mod file_host;
 mod host;
 mod mem_host;
 
-
 pub use file_host::FileHost;
 pub use host::{Failed, Host, Place, Way};
 pub use mem_host::MemHost;
+
+#[cfg(test)]
+mod tests;

@@ -163,7 +163,7 @@ impl Host for MemHost {
     ghost use Rattle.io_traits.specs.Faults.{HasCause};
     ghost use Rattle.io_traits.specs.Host.{BindsOnly, IsBoundFor, Reads, ReadsOnly, Writes, WritesOnly};
     ghost use Rattle.io_traits.specs.MemHostLaws.{unbound_is_empty as unbound_is_empty_law};
-    ghost use Rattle.io_traits.specs.MemHost.{CountsCall, fails_next, got_of, left_of, size_of, state_of};
+    ghost use Rattle.io_traits.specs.MemHost.{CountsCall, HasRoom, NeverFails, fails_next, got_of, left_of, size_of, state_of};
     ghost use Rattle.io_traits.specs.declared.host.Place.{Place};
     ghost use Rattle.io_traits.specs.declared.host.Way.{Way};
     ghost use Rattle.std.specs.Prelude.{None, Some};
@@ -180,6 +180,7 @@ impl Host for MemHost {
         ensures others { BindsOnly place (state_of self.old) (state_of self.new) }
         ensures counted { CountsCall self.old self.new }
         ensures succeeds { is_ok result ≡ not (fails_next self.old) }
+        ensures faultless { NeverFails self.old → (state_of self.new).faults place ≡ (state_of self.old).faults place }
     {
         let fails = self.count_call();
         match place {
@@ -199,6 +200,7 @@ impl Host for MemHost {
         ensures others { ReadsOnly place (state_of self.old) (state_of self.new) }
         ensures counted { CountsCall self.old self.new }
         ensures succeeds { is_ok result ≡ not (fails_next self.old) }
+        ensures faultless { NeverFails self.old → (state_of self.new).faults place ≡ (state_of self.old).faults place }
         ensures count { IfOk result (λ n. n ≡ min (length piece.old) (length (left_of self.old place))) }
     {
         let fails = self.count_call();
@@ -219,6 +221,7 @@ impl Host for MemHost {
         ensures others { WritesOnly place (state_of self.old) (state_of self.new) }
         ensures counted { CountsCall self.old self.new }
         ensures succeeds { is_ok result ≡ (not (fails_next self.old) && nat_lt (length (got_of self.old place)) (size_of self.old place)) }
+        ensures faultless { NeverFails self.old → HasRoom self.old place → (state_of self.new).faults place ≡ (state_of self.old).faults place }
         ensures count { IfOk result (λ n. n ≡ min (length piece.now) (size_of self.old place - length (got_of self.old place))) }
     {
         let fails = self.count_call();

@@ -105,6 +105,8 @@ impl File {
     pub(crate) fn bound(&self) -> Option<(Way, &str)>
         ensures { option_map (λ binding. (binding.0, binding.1.now)) result ≡ file_bound self.now }
     {
-        self.bound.as_ref().map(|binding| (binding.0, binding.1.as_str()))
+        self.bound
+            .as_ref()
+            .map(|binding| (binding.0, binding.1.as_str()))
     }
 }

@@ -1,6 +1,6 @@
-use Rattle.std.proofs.Common.{◌≡◌, ◌∙◌, ap, sym, [], ◌∷◌, if◌then◌else◌, Some, vec_len, List, ℕ}
+use Rattle.std.proofs.Common.{◌≡◌, ◌∙◌, ap, sym, [], ◌∷◌, if◌then◌else◌, Some}
 use Rattle.std.proofs.lemmas.List.Sums.{fold-append}
-use Rattle.io_traits.specs.MemHost.{IsNew, got_of, left_of, octets_for, same_place, size_of}
+use Rattle.io_traits.specs.MemHost.{got_of, left_of, octets_for, same_place, size_of}
 use Rattle.io_traits.proofs.mem_host.MemHost.new.Goals as goal
 
 pub loop-place-preserved : goal.loop-place-preserved
@@ -13,8 +13,8 @@ loop-place-preserved c =
       faults = λ p. e.faults p ∙ inv.faults p;
       bound = λ p. e.bound p ∙ inv.bound p;
       left = λ p.
-        let was : left_of c.loop-place.host p ≡ octets_for c.loop-place.yielded p = let told = inv.left p in cc in
-        ap Some (e.left p ∙ ap (λ z. if same_place place p then octets.items else z) was ∙ sym (fold-append _ _ c.loop-place.yielded ((place, octets) ∷ [])));
+          let was : left_of c.loop-place.host p ≡ octets_for c.loop-place.yielded p = let told = inv.left p in cc in
+          ap Some (e.left p ∙ ap (λ z. if same_place place p then octets.items else z) was ∙ sym (fold-append _ _ c.loop-place.yielded ((place, octets) ∷ [])));
       got = λ p. ap Some (e.got p) ∙ inv.got p;
       size = λ p. e.size p ∙ inv.size p;
       fails = ap (λ v. v.items) e.fails ∙ inv.fails;
@@ -32,13 +32,13 @@ loop-place-2-preserved c =
       bound = λ p. e.bound p ∙ inv.bound p;
       left = λ p. ap Some (e.left p) ∙ inv.left p;
       got = λ p.
-        let none : got_of c.loop-place-2.host p ≡ [] = let told = inv.got p in cc in
-        ap Some (e.got p none);
+          let none : got_of c.loop-place-2.host p ≡ [] = let told = inv.got p in cc in
+          ap Some (e.got p none);
       size = λ p.
-        e.size p
-        ∙ ap (λ z. if same_place place p then z else size_of c.loop-place-2.host p) c.in_ok-vec.ensures.len
-        ∙ ap (λ z. if same_place place p then octets else z) (inv.size p)
-        ∙ sym (fold-append _ _ c.loop-place-2.yielded ((place, octets) ∷ []));
+          e.size p
+          ∙ ap (λ z. if same_place place p then z else size_of c.loop-place-2.host p) c.in_ok-vec.ensures.len
+          ∙ ap (λ z. if same_place place p then octets else z) (inv.size p)
+          ∙ sym (fold-append _ _ c.loop-place-2.yielded ((place, octets) ∷ []));
       fails = ap (λ v. v.items) e.fails ∙ inv.fails;
       calls = e.calls ∙ inv.calls;
     }

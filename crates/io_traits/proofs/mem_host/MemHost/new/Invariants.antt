@@ -1,4 +1,4 @@
-use Rattle.std.proofs.Common.{[], ◌≡◌}
+use Rattle.std.proofs.Common.{[]}
 use Rattle.io_traits.specs.MemHost.{IsNew}
 use Rattle.io_traits.proofs.mem_host.MemHost.new.Given as goal
 
