@@ -1,0 +1,3 @@
+pub mod Faulting
+pub mod Frames
+pub mod Known

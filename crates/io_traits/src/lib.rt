@@ -1,0 +1,7 @@
+//! The outside, as the program sees it: named places that are read and written, with what they stand for in memory
+//! and over real files.
+#![tactic(auto)]
+
+mod host;
+
+pub use host::{Failed, Host, Place, Way};
