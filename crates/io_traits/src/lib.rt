@@ -2,6 +2,11 @@
 //! and over real files.
 #![tactic(auto)]
 
+
+mod file_host;
 mod host;
+mod mem_host;
+
 
 pub use host::{Failed, Host, Place, Way};
+pub use mem_host::MemHost;

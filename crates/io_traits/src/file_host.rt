@@ -1,0 +1,2 @@
+// The places of the outside over real files and the standard output.
+mod port;
