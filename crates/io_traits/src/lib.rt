@@ -8,5 +8,6 @@ mod host;
 mod mem_host;
 
 
+pub use file_host::FileHost;
 pub use host::{Failed, Host, Place, Way};
 pub use mem_host::MemHost;
