@@ -1,0 +1,4 @@
+pub mod Faulting
+pub mod Frames
+pub mod Known
+mod Fronts

@@ -1,0 +1,13 @@
+//! The outside, as the program sees it: named places that are read and written, with what they stand for in memory
+//! and over real files.
+#![tactic(auto)]
+
+
+mod file_host;
+mod host;
+mod mem_host;
+
+
+pub use file_host::FileHost;
+pub use host::{Failed, Host, Place, Way};
+pub use mem_host::MemHost;
