@@ -1,0 +1,29 @@
+//! The tracker's program: the words of its command line, carried out over real files.
+#![tactic(auto)]
+
+use io_traits::FileHost;
+use std::alloc::Global;
+use std::process::ExitCode;
+use std::rt::Env;
+use std::{env, io};
+use tracker_session::{Status, run_batch};
+
+// The words behind the program's name. One that isn't UTF-8 is in no command.
+fn words<R: Env + Alloc<A = Global>>(rt: &R) -> Result<Vec<String>, Status> {
+    match env::args(rt) {
+        Ok(arguments) => match arguments.skip(1).collect(rt.alloc()) {
+            Ok(words) => Ok(words),
+            Err(_) => Err(Status::Memory),
+        },
+        Err(error) if error.kind() == io::ErrorKind::InvalidData => Err(Status::Usage),
+        Err(_) => Err(Status::Memory),
+    }
+}
+
+fn main(rt: HostRuntime) -> ExitCode {
+    let status = match words(&rt) {
+        Ok(words) => run_batch(rt.alloc(), &words, &mut FileHost::new(rt)),
+        Err(status) => status,
+    };
+    ExitCode::from(status.code())
+}

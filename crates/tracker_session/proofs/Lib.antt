@@ -1,0 +1,6 @@
+pub mod OnePlot
+pub mod OneReplay
+pub mod Outcomes
+pub mod Pictures
+pub mod Readings
+pub mod Settings

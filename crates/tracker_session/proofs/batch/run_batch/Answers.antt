@@ -1,0 +1,20 @@
+use Rattle.std.proofs.Common.{subst}
+use Rattle.tracker_session.specs.Answers.{IsAnswer, Replayed}
+use Rattle.tracker_session.specs.declared.status.Status.{Status}
+use Rattle.tracker_session.proofs.Outcomes.{complete}
+use Rattle.tracker_session.proofs.batch.run_batch.Goals as goal
+
+pub returns-in-Some-clause-not_built : goal.returns-in-Some-clause-not_built
+returns-in-Some-clause-not_built g c = λ item e octets has.
+    subst (λ (s : Status). IsAnswer s → Replayed octets s (g.H.Host.state c.args.host.now) (g.H.Host.state c.run_replay.new.host)) e (c.run_replay.ensures.answer octets has) tt
+
+pub returns-in-Some-clause-complete : goal.returns-in-Some-clause-complete
+returns-in-Some-clause-complete g c = λ octets output status has replays words.
+    let e = c.run_replay.ensures in
+    complete octets output c.run_replay.result status (g.H.Host.state c.args.host.now) (g.H.Host.state c.run_replay.new.host) e.known (e.answer octets has) e.read e.write replays
+
+pub returns-in-None-clause-usage : goal.returns-in-None-clause-usage
+returns-in-None-clause-usage g c = λ e words. c.in-None.ensures.none words.0 words.1 words.2
+
+pub returns-in-None-clause-complete : goal.returns-in-None-clause-complete
+returns-in-None-clause-complete g c = λ octets output status has replays words input output' memory. absurd (c.in-None.ensures.none words.0 words.1 words.2)

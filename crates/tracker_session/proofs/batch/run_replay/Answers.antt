@@ -1,0 +1,23 @@
+use Rattle.std.proofs.Common.{◌∙◌, ◌≡◌, List, ℕ, subst}
+use Rattle.io_traits.specs.declared.host.Place.TheVariants as places
+use Rattle.tracker_session.specs.Answers.{Answers, ReplayedFront}
+use Rattle.tracker_session.proofs.Outcomes.{replayed_all, front_all, front_none}
+use Rattle.tracker_session.proofs.batch.run_replay.Goals as goal
+
+pub returns-in-Ok-open_output-clause-answer : goal.returns-in-Ok-open_output-clause-answer
+returns-in-Ok-open_output-clause-answer g c = λ octets has is.
+    let state = g.H.Host.state in
+    let got = c.in-Ok-open_output.ensures.got places.Output ∙ c.in-Ok.ensures.uses.got places.Output in
+    replayed_all c.in-Ok.octets.items c.args.input.now octets c.replay.result (state c.args.host.now) (state c.read_input.new.host) (state c.open_output.new.host) (state c.replay.new.host)
+    c.in-Ok.ensures.read has got is (subst (λ (o : List ℕ). Answers o c.replay.result (state c.open_output.new.host) (state c.replay.new.host)) c.deref.ensures.value c.replay.ensures.answer)
+
+pub returns-in-Ok-open_output-clause-front : goal.returns-in-Ok-open_output-clause-front
+returns-in-Ok-open_output-clause-front g c = λ octets has.
+    let state = g.H.Host.state in
+    let got = c.in-Ok-open_output.ensures.got places.Output ∙ c.in-Ok.ensures.uses.got places.Output in
+    front_all c.in-Ok.octets.items c.args.input.now octets (state c.args.host.now) (state c.read_input.new.host) (state c.open_output.new.host) (state c.replay.new.host)
+    c.in-Ok.ensures.read has got (subst (λ (o : List ℕ). ReplayedFront o (state c.open_output.new.host) (state c.replay.new.host)) c.deref.ensures.value c.replay.ensures.front)
+
+pub returns-clause-front : goal.returns-clause-front
+returns-clause-front g c = λ octets has output status replays.
+    front_none (g.H.Host.state c.args.host.now) (g.H.Host.state c.open_output.new.host) output (c.in-Err-open_output.ensures.got places.Output ∙ c.in-Ok.ensures.uses.got places.Output)

@@ -1,0 +1,10 @@
+pub mod Answers
+pub mod Datagram
+pub mod Items
+pub mod Picture
+pub mod Places
+pub mod Recording
+pub mod Replay
+pub mod Setting
+pub mod Status
+pub mod Words

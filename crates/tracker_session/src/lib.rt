@@ -1,0 +1,16 @@
+//! The top calls: a command from its words to what its places get.
+#![tactic(auto)]
+
+mod batch;
+mod picture;
+mod recording;
+mod report;
+mod status;
+mod streams;
+mod words;
+
+pub use batch::run_batch;
+pub use status::{Spot, Status};
+
+#[cfg(test)]
+mod tests;
