@@ -1,6 +1,11 @@
-pub mod OnePlot
-pub mod OneReplay
+pub mod Builds
+pub mod SomeReading
+pub mod Octets
 pub mod Outcomes
+pub mod Outputs
 pub mod Pictures
 pub mod Readings
+pub mod Runs
 pub mod Settings
+pub mod Stepping
+pub mod TakingReports

@@ -1,63 +1,95 @@
 -- From what was read of Input to what Input had, and from step to step.
-use Rattle.std.proofs.Common.{◌≡◌, ◌≢◌, ◌∙◌, ap, sym, refl, subst, inl, inr, ℕ, ◌+◌, ◌<◌, ◌≤◌, ◌⊎◌, List, [], ◌∷◌, ◌++◌, length, take, arith, length-append}
-use Rattle.std.specs.Prelude.{Option, Some, None}
-use Rattle.std.proofs.lemmas.Bool.{cases_lt}
+use Rattle.std.proofs.Common.{◌≡◌, ◌≢◌, ◌∙◌, ap, sym, refl, subst, inl, inr, ℕ, ◌+◌, ◌-◌, ◌<◌, ◌≤◌, ◌^◌, ◌⊎◌, Bool, true, false, List, [], ◌∷◌, ◌++◌, length, take, drop, min, arith, length-append, append-nil}
+use Rattle.std.specs.Prelude.{Option, Some, None, nat_lt}
+use Rattle.std.proofs.lemmas.Bool.{cases_lt, lt-ltb, ltb-false}
+use Rattle.std.proofs.lemmas.List.{take_all, take-append-drop, take-append-le}
 use Rattle.std.specs.Io.KnownBytes.{Appends, Consumes}
-use Rattle.io_traits.specs.Host.{HostState}
+use Rattle.io_traits.specs.Host.{HostState, IsEmpty, WritesOnly}
+use Rattle.io_traits.specs.declared.host.Place.{Place}
 use Rattle.io_traits.specs.declared.host.Place.TheVariants as places
 use Rattle.io_traits.proofs.Known.{Consumes_all, Appends_nothing}
-use Rattle.tracker_session.specs.declared.streams.TheConstants.{LIMIT}
+use Rattle.tracker_session.specs.declared.batch.End.{End}
+use Rattle.tracker_session.specs.declared.batch.End.TheVariants as ends
+use Rattle.tracker_session.specs.declared.recording.ItemFault.TheVariants.{FirstOctet, CutShort}
 use Rattle.tracker_session.specs.declared.status.Spot.{Spot}
 use Rattle.tracker_session.specs.declared.status.Spot.TheVariants as spots
 use Rattle.tracker_session.specs.declared.status.Status.{Status}
 use Rattle.tracker_session.specs.declared.status.Status.TheVariants.{Done, Usage, Input, Read, Write, Memory, NotBuilt}
 use Rattle.tracker_session.specs.Answers.{Answers, IsAnswer, Replayed, ReplayedFront}
-use Rattle.tracker_session.specs.Places.{AppendsFront, InputHas, InputRead, InputFailed, OutputFailed, OutputGotFront}
-use Rattle.tracker_session.specs.Replay.{Replays, IsOnePlot}
-use Rattle.tracker_session.specs.Datagram.{Report}
-use Rattle.tracker_session.proofs.OneReplay.{one_replay}
+use Rattle.tracker_session.specs.Places.{AppendsFront, InputHas, InputRead, InputFailed, IsFaultless, OutputBound, OutputFailed, OutputGotFront, UsesInput, UsesOutput}
+use Rattle.tracker_session.specs.Recording.{Item, limit, mark, header, recording, Ending, nothing, other, cut, fault_of, ReadsSo, HasNoStart, IsReading, IsNoRecording}
+use Rattle.tracker_session.specs.Replay.{Runs, RunsNot, Replays, answer_of}
+use Rattle.tracker_session.specs.Steps.{status_at}
+use Rattle.tracker_session.proofs.Outputs.{output_none}
+use Rattle.tracker_session.proofs.Runs.{Seen, one_replay, front_got}
 
--- what was read is what there was, or as long as the limit and a front of it
-AllOrLong : List ℕ → List ℕ → Type 0
-AllOrLong octets all = (octets ≡ all) ⊎ ((LIMIT < length octets) × (LIMIT < length all))
+-- Two inputs that are one, or both pass the limit and are one before it.
+pub record BothLong (a b : List ℕ) : Type 0 where
+  pub front : take limit a ≡ take limit b
+  pub long : limit < length a
+  pub long' : limit < length b
 
-front_long : (a b : Option (List ℕ)) (s xs : List ℕ) → Consumes a b s → a ≡ Some xs → length s ≤ length xs
-front_long None b s xs h e = absurd cc
-front_long (Some ys) None s xs h e = absurd h
-front_long (Some ys) (Some zs) s xs h e =
-    let same : ys ≡ xs = cc in
-    omega (arith, ap length (sym same ∙ h), length-append s zs)
+abbrev pub Alike : List ℕ → List ℕ → Type 0
+Alike a b = (a ≡ b) ⊎ BothLong a b
 
-all_or_long : (octets name all : List ℕ) (old new : HostState) → InputRead octets name old new → InputHas old all → AllOrLong octets all
-unfolding AllOrLong
-all_or_long octets name all old new r has =
-    elim (cases_lt LIMIT (length octets)) [
-      | inl long ↦ inr (long, omega (arith, long, front_long (old.left places.Input) (new.left places.Input) octets all r.taken has))
-      | inr short ↦ inl (Consumes_all (old.left places.Input) (new.left places.Input) octets all r.taken (r.whole short) has)
-    ]
+turned : (a b : List ℕ) → Alike a b → Alike b a
+turned a b (inl e) = inl (sym e)
+turned a b (inr h) = inr (record { front = sym h.front; long = h.long'; long' = h.long })
 
-short_plot : (octets : List ℕ) (time : ℕ) (report : Report) → LIMIT < length octets → IsOnePlot octets time report → ⊥
-short_plot octets time report long p = omega (arith, long, ap length p.whole)
+marks_alike : (a b rest : List ℕ) → BothLong a b → b ≡ mark ++ rest → (more : List ℕ) × (a ≡ mark ++ more)
+marks_alike a b rest h e =
+    let front : take limit a ≡ mark ++ take 1073741820 rest = h.front ∙ ap (take limit) e in
+    (take 1073741820 rest ++ drop limit a, sym (take-append-drop limit a) ∙ ap (λ t. t ++ drop limit a) front)
 
-replays_long : (a b output : List ℕ) (status : Status) → LIMIT < length a → LIMIT < length b → Replays a output status → Replays b output status
-replays_long a b output Done la lb h = absurd (short_plot a h.0 h.1 la h.2)
-replays_long a b output (NotBuilt item) la lb h = ((λ time report p. short_plot b time report lb p), h.1, h.2)
-replays_long a b output Usage la lb h = absurd h
-replays_long a b output (Input offset) la lb h = absurd h
-replays_long a b output (Read spot) la lb h = absurd h
-replays_long a b output (Write spot) la lb h = absurd h
-replays_long a b output Memory la lb h = absurd h
+tests_alike : (a b : List ℕ) → BothLong a b → nat_lt limit (length a) ≡ nat_lt limit (length b)
+tests_alike a b h = lt-ltb limit (length a) h.long ∙ sym (lt-ltb limit (length b) h.long')
+
+reading_alike : (a b : List ℕ) (start : ℕ) (items : List Item) (fault : Option ℕ) → BothLong a b → IsReading a start items fault → IsReading b start items fault
+reading_alike a b start items fault h (inl r) =
+    inl (record {
+      start_fits = r.start_fits;
+      items_fit = r.items_fit;
+      rest = r.rest;
+      ending = r.ending;
+      whole = sym h.front ∙ r.whole;
+      ends = r.ends;
+      fault_is = r.fault_is ∙ ap (λ long. fault_of r.ending long (length (recording start items))) (tests_alike a b h);
+    })
+reading_alike a b start items fault h (inr r) = absurd (omega (arith, h.long, ap length r.whole, r.short))
 
 -- they are replayed alike
-replays_all : (octets all output : List ℕ) (status : Status) → AllOrLong octets all → Replays octets output status → Replays all output status
-unfolding AllOrLong
-replays_all octets all output status h r =
-    elim h [ inl same ↦ subst (λ (o : List ℕ). Replays o output status) same r | inr long ↦ replays_long octets all output status long.0 long.1 r ]
+pub replays_alike : (a b output : List ℕ) (status : Status) → Alike a b → Replays a output status → Replays b output status
+replays_alike a b output status (inl e) r = subst (λ (o : List ℕ). Replays o output status) e r
+replays_alike a b output status (inr h) (inl r) =
+    inl (record {
+      start = r.start;
+      items = r.items;
+      fault = r.fault;
+      reading = reading_alike a b r.start r.items r.fault h r.reading;
+      built = r.built;
+      others = r.others;
+      parts = r.parts;
+      built_fit = r.built_fit;
+      stops = r.stops;
+      output_is = r.output_is;
+      status_is = r.status_is;
+    })
+replays_alike a b output status (inr h) (inr r) =
+    inr (record { other = (λ rest e. let marked = marks_alike a b rest h e in r.other marked.0 marked.1); output_is = r.output_is; status_is = r.status_is })
 
-replays_front : (octets all output : List ℕ) (status : Status) → AllOrLong octets all → Replays all output status → Replays octets output status
-unfolding AllOrLong
-replays_front octets all output status h r =
-    elim h [ inl same ↦ subst (λ (o : List ℕ). Replays o output status) (sym same) r | inr long ↦ replays_long all octets output status long.1 long.0 r ]
+consumed : (a b : Option (List ℕ)) (s xs : List ℕ) → Consumes a b s → a ≡ Some xs → (more : List ℕ) × (xs ≡ s ++ more)
+consumed None b s xs h e = absurd cc
+consumed (Some ys) None s xs h e = absurd h
+consumed (Some ys) (Some zs) s xs h e = (let same : ys ≡ xs = cc in (zs, sym same ∙ h))
+
+-- what was read is replayed like what Input had
+read_alike : (octets name all : List ℕ) (old new : HostState) → InputRead octets name old new → InputHas old all → Alike octets all
+read_alike octets name all old new r has =
+    elim (cases_lt limit (length octets)) [
+      | inl long ↦ (let more = consumed (old.left places.Input) (new.left places.Input) octets all r.taken has in
+          inr (record { front = sym (ap (take limit) more.1 ∙ take-append-le limit octets more.0 (omega arith)); long = long; long' = omega (arith, long, ap length more.1, length-append octets more.0) }))
+      | inr short ↦ inl (Consumes_all (old.left places.Input) (new.left places.Input) octets all r.taken (r.whole short) has)
+    ]
 
 answered : (octets : List ℕ) (s : Status) (old new : HostState) → IsAnswer s → Answers octets s old new → Replayed octets s old new
 answered octets Done old new is h = h.0
@@ -72,11 +104,11 @@ answered octets Memory old new is h = absurd is
 pub replayed_all : (octets name all : List ℕ) (s : Status) (old read mid new : HostState) → InputRead octets name old read → InputHas old all → mid.got places.Output ≡ old.got places.Output → IsAnswer s → Answers octets s mid new → Replayed all s old new
 replayed_all octets name all s old read mid new r has got is h =
     let mine = answered octets s mid new is h in
-    (mine.0, replays_all octets all mine.0 s (all_or_long octets name all old read r has) mine.1, subst (λ (g : Option (List ℕ)). Appends g (new.got places.Output) mine.0) got mine.2)
+    (mine.0, replays_alike octets all mine.0 s (read_alike octets name all old read r has) mine.1, subst (λ (g : Option (List ℕ)). Appends g (new.got places.Output) mine.0) got mine.2)
 
 pub front_all : (octets name all : List ℕ) (old read mid new : HostState) → InputRead octets name old read → InputHas old all → mid.got places.Output ≡ old.got places.Output → ReplayedFront octets mid new → ReplayedFront all old new
 front_all octets name all old read mid new r has got h output status replays =
-    subst (λ (g : Option (List ℕ)). AppendsFront g (new.got places.Output) output) got (h output status (replays_front octets all output status (all_or_long octets name all old read r has) replays))
+    subst (λ (g : Option (List ℕ)). AppendsFront g (new.got places.Output) output) got (h output status (replays_alike all octets output status (turned octets all (read_alike octets name all old read r has)) replays))
 
 -- nothing was written at all
 pub front_none : (old new : HostState) (output : List ℕ) → new.got places.Output ≡ old.got places.Output → OutputGotFront old new output
@@ -93,3 +125,108 @@ complete octets output Usage status old new known answer read write replays inpu
 complete octets output (Read spot) status old new known answer read write replays input output' memory = absurd (input (read spot refl).1)
 complete octets output (Write spot) status old new known answer read write replays input output' memory = absurd (output' (write spot refl).1)
 complete octets output Memory status old new known answer read write replays input output' memory = absurd (memory refl)
+
+-- ---- the answers of the steps
+
+-- what stands behind a header, before the limit
+pub seen_of : (octets behind : List ℕ) (start n : ℕ) → (start < 2 ^ 40) × (octets ≡ header start ++ behind) → n ≡ min (length behind) 1073741815 → Seen octets start (take n behind)
+seen_of octets behind start n h e =
+    let same : take n behind ≡ take 1073741815 behind = elim (cases_lt (length behind) 1073741815) [
+      | inl short ↦ take_all n behind (omega arith) ∙ sym (take_all 1073741815 behind (omega arith))
+      | inr long ↦ (let many : n ≡ 1073741815 = omega arith in ap (λ k. take k behind) many)
+    ] in
+    record { fits = h.0; whole = ap (take limit) h.1 ∙ ap (λ t. header start ++ t) (sym same) }
+
+status_answers : (e : End) (size : ℕ) (long : Bool) → IsAnswer (status_at e size long)
+status_answers ends.Whole size false = tt
+status_answers ends.Whole size true = tt
+status_answers (ends.Fault left FirstOctet) size long = tt
+status_answers (ends.Fault left CutShort) size false = tt
+status_answers (ends.Fault left CutShort) size true = tt
+status_answers (ends.NotBuilt number) size long = tt
+
+answers_of : (octets : List ℕ) (s : Status) (old new : HostState) → IsAnswer s → Replayed octets s old new → new.faults places.Output ≡ old.faults places.Output → Answers octets s old new
+answers_of octets Done old new is h faults = (h, faults)
+answers_of octets (Input offset) old new is h faults = h
+answers_of octets (NotBuilt item) old new is h faults = h
+answers_of octets Usage old new is h faults = absurd is
+answers_of octets (Read spot) old new is h faults = absurd is
+answers_of octets (Write spot) old new is h faults = absurd is
+answers_of octets Memory old new is h faults = absurd is
+
+pub ended_answers : (octets : List ℕ) (s : Status) (e : End) (size : ℕ) (long : Bool) (old new : HostState) → s ≡ status_at e size long → Replayed octets (status_at e size long) old new → new.faults places.Output ≡ old.faults places.Output → Answers octets s old new
+ended_answers octets s e size long old new is h faults =
+    subst (λ (t : Status). Answers octets t old new) (sym is) (answers_of octets (status_at e size long) old new (status_answers e size long) h faults)
+
+pub replayed_front : (octets : List ℕ) (s : Status) (old new : HostState) → Replayed octets s old new → ReplayedFront octets old new
+replayed_front octets s old new h output status r =
+    let same = one_replay octets output h.0 status s r h.1 in
+    front_got old new h.0 [] output (same.0 ∙ sym (append-nil h.0)) h.2
+
+pub no_recording : (octets : List ℕ) (host : HostState) → IsNoRecording octets → Replayed octets (NotBuilt 0) host host
+no_recording octets host none = ([], inr (record { other = none; output_is = refl; status_is = refl }), Appends_nothing (host.got places.Output))
+
+pub no_start : (octets : List ℕ) (host : HostState) → HasNoStart octets 0 [] (Some 4) → Replayed octets (Input 4) host host
+no_start octets host h =
+    ([], inl (record { start = 0; items = []; fault = Some 4; reading = inr h; built = []; others = []; parts = refl; built_fit = tt; stops = tt; output_is = output_none 0; status_is = refl }), Appends_nothing (host.got places.Output))
+
+-- a replay that is done read no more than the limit
+whole_fault : (e : Ending) (long : Bool) (place : ℕ) → None ≡ fault_of e long place → long ≡ false
+whole_fault nothing false place h = refl
+whole_fault nothing true place h = absurd cc
+whole_fault other long place h = absurd cc
+whole_fault cut false place h = refl
+whole_fault cut true place h = absurd cc
+
+done_fault : (fault : Option ℕ) (others : List Item) (n : ℕ) → Done ≡ answer_of fault others n → None ≡ fault
+done_fault None [] n e = refl
+done_fault (Some offset) [] n e = absurd cc
+done_fault None (i ∷ is) n e = absurd cc
+done_fault (Some offset) (i ∷ is) n e = absurd cc
+
+done_short : (octets output : List ℕ) → Replays octets output Done → length octets ≤ limit
+done_short octets output (inr h) = absurd (no h.status_is)
+  where
+    no : Done ≡ NotBuilt 0 → ⊥
+    no e = cc
+done_short octets output (inl h) = go h.reading (done_fault h.fault h.others (length h.built) h.status_is)
+  where
+    go : IsReading octets h.start h.items h.fault → None ≡ h.fault → length octets ≤ limit
+    go (inl r) e = ltb-false limit (length octets) (whole_fault r.ending (nat_lt limit (length octets)) (length (recording h.start h.items)) (e ∙ r.fault_is))
+    go (inr r) e = omega (arith, ap length r.whole, r.short)
+
+pub record DoneSo (octets : List ℕ) (old new : HostState) : Type 0 where
+  pub short : length octets ≤ limit
+  pub faults : new.faults places.Output ≡ old.faults places.Output
+
+pub done_so : (octets : List ℕ) (s : Status) (old new : HostState) → s ≡ Done → Answers octets s old new → DoneSo octets old new
+done_so octets s old new e h =
+    let done = subst (λ (t : Status). Answers octets t old new) e h in
+    record { short = done_short octets done.0.0 done.0.1; faults = done.1 }
+
+input_output : places.Input ≢ places.Output
+input_output e = cc
+
+output_input : places.Output ≢ places.Input
+output_input e = cc
+
+-- where a place is neither, no step changes its count
+kept_faults : (p : Place) → p ≢ places.Input → p ≢ places.Output → (a r o z : HostState) → UsesInput a r → UsesOutput r o → WritesOnly places.Output o z → z.faults p ≡ a.faults p
+kept_faults p not_input not_output a r o z first second third = third.faults p not_output ∙ second.others.faults p not_output ∙ first.others.faults p not_input
+
+-- the steps of a replay that is done, one after the other
+pub faultless : (input output octets : List ℕ) (a r o z : HostState) → InputRead octets input a r → UsesInput a r → OutputBound output r o → UsesOutput r o → WritesOnly places.Output o z → DoneSo octets o z → IsFaultless input output a z
+faultless input output octets a r o z read first bound second third done =
+    record {
+      input_bound = third.bound places.Input ∙ second.others.bound places.Input input_output ∙ read.bound;
+      output_bound = third.bound places.Output ∙ bound.bound;
+      at_end = subst IsEmpty (sym (third.left places.Input ∙ second.left places.Input)) (read.whole done.short);
+      faults = all;
+    }
+  where
+    all : (p : Place) → z.faults p ≡ a.faults p
+    all places.Input = third.faults places.Input input_output ∙ second.others.faults places.Input input_output ∙ read.faults
+    all places.Output = done.faults ∙ bound.faults ∙ first.others.faults places.Output output_input
+    all places.Settings = kept_faults places.Settings (λ e. cc) (λ e. cc) a r o z first second third
+    all places.Prices = kept_faults places.Prices (λ e. cc) (λ e. cc) a r o z first second third
+    all places.Screen = kept_faults places.Screen (λ e. cc) (λ e. cc) a r o z first second third

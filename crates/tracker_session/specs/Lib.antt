@@ -7,4 +7,6 @@ pub mod Recording
 pub mod Replay
 pub mod Setting
 pub mod Status
+pub mod Steps
+pub mod Taking
 pub mod Words

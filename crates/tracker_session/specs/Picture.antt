@@ -53,6 +53,10 @@ track_record time number p = 149 ∷ 12 ∷ 1 ∷ 99 ∷ big_endian 3 (time % da
 abbrev pub track_records : ℕ → List Position → List (List ℕ)
 track_records time positions = map (λ at. track_record time at.0 at.1) (enumerate_from 1 positions)
 
--- The octets are the edition of a time: the blocks of a track for each of the first 65,535 reports.
+-- where the first 65,535 of the reports lie
+abbrev pub positions_of : List Report → List Position
+positions_of reports = map (λ r. position_of r.plot) (take 65535 reports)
+
+-- The octets are the edition of a time: the blocks of a track for each of these.
 abbrev pub IsEdition : ℕ → List Report → List ℕ → Type 0
-IsEdition time reports octets = AreBlocksOf (track_records time (map (λ r. position_of r.plot) (take 65535 reports))) octets
+IsEdition time reports octets = AreBlocksOf (track_records time (positions_of reports)) octets

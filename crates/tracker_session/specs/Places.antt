@@ -10,7 +10,7 @@ use Rattle.io_traits.specs.declared.host.Way.TheVariants as ways
 use Rattle.tracker_session.specs.declared.status.Spot.TheVariants as spots
 use Rattle.tracker_session.specs.declared.status.Status.{Status}
 use Rattle.tracker_session.specs.declared.status.Status.TheVariants.{Done, Usage, Input, Read, Write, Memory, NotBuilt}
-use Rattle.tracker_session.specs.declared.streams.TheConstants.{LIMIT}
+use Rattle.tracker_session.specs.Recording.{limit}
 
 -- a front of these octets was appended
 abbrev pub AppendsFront : Option (List ℕ) → Option (List ℕ) → List ℕ → Type 0
@@ -67,7 +67,7 @@ pub record IsFaultless (input output : List ℕ) (old new : HostState) : Type 0 
 pub record InputRead (octets name : List ℕ) (old new : HostState) : Type 0 where
   pub bound : new.bound places.Input ≡ Some (ways.Read, name)
   pub taken : Consumes (old.left places.Input) (new.left places.Input) octets
-  pub whole : length octets ≤ LIMIT → IsEmpty (new.left places.Input)
+  pub whole : length octets ≤ limit → IsEmpty (new.left places.Input)
   pub faults : new.faults places.Input ≡ old.faults places.Input
 
 -- the status of a reading that broke off

@@ -1,58 +1,28 @@
 // The commands, step by step.
-ghost use Rattle.std.specs.Prelude.{◌≡◌, ◌≢◌, ◌<◌, ◌≤◌, ◌^◌, ◌∷◌, [], ℕ, List, length, map, Option, None, Some, string_bytes, IfOk, IfErr, IfSome, IfNone, OnOk, OnErr};
+ghost use Rattle.std.specs.Prelude.{◌≡◌, ◌≢◌, ◌<◌, ◌≤◌, ◌^◌, ◌∷◌, [], ℕ, List, length, vec_len, true, false, Ok, Option, None, Some, string_bytes, IfOk, IfErr, IfSome, IfNone, OnOk, OnErr};
 ghost use Rattle.std.specs.Io.KnownBytes.{Appends, Consumes};
 ghost use Rattle.io_traits.specs.declared.host.Place.{Place};
 ghost use Rattle.io_traits.specs.declared.host.Way.{Way};
-ghost use Rattle.tracker_session.specs.Datagram.{Report};
 ghost use Rattle.io_traits.specs.Host.{IsBoundFor, WritesOnly};
 ghost use Rattle.tracker_session.specs.Answers.{Answers, IsAnswer, Replayed, ReplayedFront};
 ghost use Rattle.tracker_session.specs.Places.{BoundAtMost, InputHas, InputRead, InputFailed, OutputBound, OutputFailed, IsFaultless, StopsReading, StopsWriting, UsesInput, UsesInputAndOutput, UsesOutput};
-ghost use Rattle.tracker_session.specs.Replay.{IsOnePlot, Replays};
+ghost use Rattle.tracker_session.specs.Items.{item_of};
+ghost use Rattle.tracker_session.specs.Recording.{IsItem};
+ghost use Rattle.tracker_session.specs.Replay.{Replays};
+ghost use Rattle.tracker_session.specs.Steps.{Breaks, BreaksEdition, Ends, IsNotBuilt, IsWithin, Stopped, Takes, WritesEdition, status_at};
 ghost use Rattle.tracker_session.specs.Words.{AreReplay, IsReplay, texts};
 ghost use Rattle.tracker_session.specs.declared.status.Spot.{Spot};
 ghost use Rattle.tracker_session.specs.declared.status.Status.{Status};
 
-use crate::picture::edition;
-use crate::recording::{Item, first_item, header_of};
-use crate::report::{Bearing, Plot, only_plot};
+use crate::picture::{TRACK_LIMIT, edition};
+use crate::recording::{HEADER, HeaderFault, Item, ItemFault, first_item, header_of};
+use crate::report::{Position, take_reports};
 use crate::status::{Spot, Status};
-use crate::streams::{ReadError, read_all, write_all};
+use crate::streams::{LIMIT, ReadError, read_all, write_all};
 use crate::words::replay_names;
 use io_traits::{Failed, Host, Place, Way};
 use std::alloc::Global;
 use trk_base::NoMemory;
-
-// The tick and the plot of a recording of a datagram of one report, north of the radar, and a tick above the start.
-fn one_plot(octets: &[u8]) -> Option<(u64, Plot)>
-    ensures found { IfSome result (λ x. (r : Report) × IsOnePlot octets.now x.0 r × (x.1 ≡ r.plot)) }
-    ensures none { IfNone result ((time : ℕ) (r : Report) → IsOnePlot octets.now time r → ⊥) }
-{
-    let Ok((start, items)) = header_of(octets) else {
-        return None;
-    };
-    let Ok((first, items)) = first_item(items) else {
-        return None;
-    };
-    let Item::Datagram { octets, .. } = first else {
-        return None;
-    };
-    let Some(plot) = only_plot(octets) else {
-        return None;
-    };
-    let Ok((second, items)) = first_item(items) else {
-        return None;
-    };
-    let Item::Tick(time) = second else {
-        return None;
-    };
-    if time <= start || !items.is_empty() {
-        return None;
-    }
-    match plot.bearing {
-        Bearing::North => Some((time, plot)),
-        _ => None,
-    }
-}
 
 // Binds Input, and reads it to its end or past the limit.
 fn read_input<H: Host>(alloc: Global, name: &str, host: &mut H) -> Result<Vec<u8>, Status>
@@ -93,6 +63,137 @@ fn open_output<H: Host>(alloc: Global, name: &str, host: &mut H) -> Result<(), S
     }
 }
 
+/// How the items of a recording ended.
+#[derive(Clone, Copy, Debug, PartialEq, Eq)]
+enum End {
+    /// Nothing is left.
+    Whole,
+    /// No item begins where so many octets are left.
+    Fault { left: usize, fault: ItemFault },
+    /// The datagram with this number among the items isn't built.
+    NotBuilt { item: u64 },
+}
+
+/// The picture so far.
+#[derive(Drop)]
+struct Picture {
+    /// The last tick, or the start of the recording.
+    last: u64,
+    /// Where the plots lie, at most as many as an edition has tracks.
+    positions: Vec<Position>,
+}
+
+// Writes the edition of a time to Output.
+fn write_edition<H: Host>(
+    alloc: Global,
+    time: u64,
+    positions: &[Position],
+    host: &mut H,
+) -> Result<(), Status>
+    requires room { length positions.now ≤ TRACK_LIMIT }
+    requires bound { IsBoundFor Way.Write (H.state host.old) Place.Output }
+    ensures ok { OnOk result (WritesEdition time positions.now (H.state host.old) (H.state host.new)) }
+    ensures kept { OnOk result ((H.state host.new).faults Place.Output ≡ (H.state host.old).faults Place.Output) }
+    ensures stops { IfErr result (λ s. StopsWriting s (H.state host.old) (H.state host.new)) }
+    ensures front { OnErr result (BreaksEdition time positions.now (H.state host.old) (H.state host.new)) }
+    ensures uses { WritesOnly Place.Output (H.state host.old) (H.state host.new) }
+{
+    let Ok(datagrams) = edition(alloc, time, positions) else {
+        return Err(Status::Memory);
+    };
+    match write_all(host, Place::Output, &datagrams) {
+        Ok(()) => Ok(()),
+        Err(Failed) => Err(Status::Write(Spot::Output)),
+    }
+}
+
+// Takes an item. It is false where that is a datagram that isn't built.
+fn take_item<H: Host>(
+    alloc: Global,
+    item: Item<'_>,
+    picture: &mut Picture,
+    host: &mut H,
+) -> Result<bool, Status>
+    requires fits { IsItem (item_of item) }
+    requires room { vec_len picture.old.positions ≤ TRACK_LIMIT }
+    requires bound { IsBoundFor Way.Write (H.state host.old) Place.Output }
+    ensures room { vec_len picture.new.positions ≤ TRACK_LIMIT }
+    ensures taken { result ≡ Ok true → Takes (item_of item.entry) picture.old picture.new (H.state host.old) (H.state host.new) }
+    ensures other { result ≡ Ok false → IsNotBuilt (item_of item.entry) }
+    ensures kept { OnOk result ((H.state host.new).faults Place.Output ≡ (H.state host.old).faults Place.Output) }
+    ensures same { result ≡ Ok false → (H.state host.new).got Place.Output ≡ (H.state host.old).got Place.Output }
+    ensures stops { IfErr result (λ s. StopsWriting s (H.state host.old) (H.state host.new)) }
+    ensures front { OnErr result (Breaks (item_of item.entry) picture.old (H.state host.old) (H.state host.new)) }
+    ensures uses { WritesOnly Place.Output (H.state host.old) (H.state host.new) }
+{
+    match item {
+        Item::Datagram { octets, .. } => match take_reports(octets, &mut picture.positions) {
+            Ok(built) => Ok(built),
+            Err(NoMemory) => Err(Status::Memory),
+        },
+        Item::Tick(time) => {
+            if time > picture.last {
+                write_edition(alloc, time, &picture.positions, host)?;
+                picture.last = time;
+            }
+            Ok(true)
+        }
+    }
+}
+
+// Takes the items behind the start, until there are no more, one is at fault or one isn't built.
+fn take_items<H: Host>(alloc: Global, start: u64, items: &[u8], host: &mut H) -> Result<End, Status>
+    requires { IsBoundFor Way.Write (H.state host.old) Place.Output }
+    ensures ended { IfOk result (λ e. Ends items.now start e (H.state host.old) (H.state host.new)) }
+    ensures kept { OnOk result ((H.state host.new).faults Place.Output ≡ (H.state host.old).faults Place.Output) }
+    ensures stops { IfErr result (λ s. StopsWriting s (H.state host.old) (H.state host.new)) }
+    ensures front { OnErr result (Stopped items.now start (H.state host.old) (H.state host.new)) }
+    ensures uses { WritesOnly Place.Output (H.state host.old) (H.state host.new) }
+{
+    let mut picture = Picture {
+        last: start,
+        positions: Vec::new(alloc),
+    };
+    let mut number = 0;
+    let mut rest = items;
+    while !rest.is_empty() {
+        let (item, next) = match first_item(rest) {
+            Ok(found) => found,
+            Err(fault) => {
+                return Ok(End::Fault {
+                    left: rest.len(),
+                    fault,
+                });
+            }
+        };
+        if !take_item(alloc, item, &mut picture, host)? {
+            return Ok(End::NotBuilt { item: number });
+        }
+        number += 1;
+        rest = next;
+    }
+    Ok(End::Whole)
+}
+
+// The answer at this end of a recording of so many octets, whether or not more stand past the limit.
+fn answer(end: End, size: usize, long: bool) -> Status
+    requires { IsWithin size end }
+    ensures { result ≡ status_at end size long }
+{
+    match end {
+        End::Whole if !long => Status::Done,
+        End::Whole => Status::Input { offset: LIMIT },
+        End::Fault {
+            fault: ItemFault::CutShort,
+            ..
+        } if long => Status::Input { offset: LIMIT },
+        End::Fault { left, .. } => Status::Input {
+            offset: size - left,
+        },
+        End::NotBuilt { item } => Status::NotBuilt { item },
+    }
+}
+
 // Output gets what the replay of the octets gives.
 fn replay<H: Host>(alloc: Global, octets: &[u8], host: &mut H) -> Status
     requires { IsBoundFor Way.Write (H.state host.old) Place.Output }
@@ -100,15 +201,15 @@ fn replay<H: Host>(alloc: Global, octets: &[u8], host: &mut H) -> Status
     ensures front { ReplayedFront octets.now (H.state host.old) (H.state host.new) }
     ensures uses { WritesOnly Place.Output (H.state host.old) (H.state host.new) }
 {
-    let Some((time, plot)) = one_plot(octets) else {
-        return Status::NotBuilt { item: 0 };
+    let (start, items) = match header_of(octets) {
+        Ok(found) => found,
+        Err(HeaderFault::NoRecording) => return Status::NotBuilt { item: 0 },
+        Err(HeaderFault::CutShort) => return Status::Input { offset: 4 },
     };
-    let Ok(datagrams) = edition(alloc, time, &[plot.position()]) else {
-        return Status::Memory;
-    };
-    match write_all(host, Place::Output, &datagrams) {
-        Ok(()) => Status::Done,
-        Err(Failed) => Status::Write(Spot::Output),
+    let items = &items[..items.len().min(LIMIT - HEADER)];
+    match take_items(alloc, start, items, host) {
+        Ok(end) => answer(end, HEADER + items.len(), octets.len() > LIMIT),
+        Err(status) => status,
     }
 }
 

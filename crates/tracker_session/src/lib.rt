@@ -2,6 +2,7 @@
 #![tactic(auto)]
 
 mod batch;
+mod laws;
 mod picture;
 mod recording;
 mod report;
@@ -10,6 +11,7 @@ mod streams;
 mod words;
 
 pub use batch::run_batch;
+pub use laws::{one_reading, one_replay};
 pub use status::{Spot, Status};
 
 #[cfg(test)]

@@ -1,8 +1,15 @@
 // The items of a recording, from the left.
-ghost use Rattle.std.specs.Prelude.{◌≡◌, ◌<◌, ◌^◌, ◌++◌, ℕ, List, length, IfOk, OnErr};
-ghost use Rattle.tracker_session.specs.Recording as recording;
-ghost use Rattle.tracker_session.specs.Recording.{IsItem, spelled, header};
+ghost use Rattle.std.specs.Prelude.{◌≡◌, ◌<◌, ◌^◌, ◌++◌, ℕ, ◌+◌, ◌*◌, List, [], ◌∷◌, length, slice_index, Some, Err, IfOk, IfSome, IfNone};
+ghost use Rattle.tracker_session.specs.Recording.{HasNoStart, IsCutShort, IsItem, IsNoRecording, IsOther, header, spelled};
 ghost use Rattle.tracker_session.specs.Items.{item_of};
+
+/// The octets before the items.
+pub const HEADER: usize = 9;
+
+/// The first octet of a tick.
+const TICK: u8 = 1;
+/// The first octet of a datagram.
+const DATAGRAM: u8 = 2;
 
 /// An item of a recording.
 #[derive(Clone, Copy)]
@@ -34,7 +41,8 @@ pub enum HeaderFault {
 /// The start of the recording, in 1/128 s, and what follows its header.
 pub fn header_of(octets: &[u8]) -> Result<(u64, &[u8]), HeaderFault>
     ensures found { IfOk result (λ x. (x.0 < 2 ^ 40) × (octets.now ≡ header x.0 ++ x.1.now)) }
-    ensures none { OnErr result ((start : ℕ) (rest : List ℕ) → octets.now ≡ header start ++ rest → ⊥) }
+    ensures other { result ≡ Err HeaderFault.NoRecording → IsNoRecording octets.now }
+    ensures cut { result ≡ Err HeaderFault.CutShort → HasNoStart octets.now 0 [] (Some 4) }
 {
     match octets {
         [b'M', b'R', b'T', b'1', a, b, c, d, e, items @ ..] => {
@@ -46,31 +54,56 @@ pub fn header_of(octets: &[u8]) -> Result<(u64, &[u8]), HeaderFault>
     }
 }
 
+// The tick that the octets behind the first begin with, and what follows it.
+fn first_tick(octets: &[u8]) -> Option<(Item<'_>, &[u8])>
+    ensures found { IfSome result (λ x. IsItem (item_of x.0) × (1 ∷ octets.now ≡ spelled (item_of x.0) ++ x.1.now)) }
+    ensures none { IfNone result (length octets.now < 5) }
+{
+    let [a, b, c, d, e, next @ ..] = octets else {
+        return None;
+    };
+    let time = u64::from_be_bytes([0, 0, 0, *a, *b, *c, *d, *e]);
+    Some((Item::Tick(time), next))
+}
+
+// The datagram that the octets behind the first begin with, and what follows it.
+fn first_datagram(octets: &[u8]) -> Option<(Item<'_>, &[u8])>
+    ensures found { IfSome result (λ x. IsItem (item_of x.0) × (2 ∷ octets.now ≡ spelled (item_of x.0) ++ x.1.now)) }
+    ensures none { IfNone result (length octets.now < 3 + 256 * slice_index octets.now 1 + slice_index octets.now 2) }
+{
+    let [feed, high, low, after @ ..] = octets else {
+        return None;
+    };
+    let length = u16::from_be_bytes([*high, *low]) as usize;
+    if after.len() < length {
+        return None;
+    }
+    let (octets, next) = after.split_at(length);
+    Some((
+        Item::Datagram {
+            feed: *feed,
+            octets,
+        },
+        next,
+    ))
+}
+
 /// The item that the octets begin with, and what follows it.
 pub fn first_item(octets: &[u8]) -> Result<(Item<'_>, &[u8]), ItemFault>
+    requires { 0 < length octets.now }
     ensures found { IfOk result (λ x. IsItem (item_of x.0) × (octets.now ≡ spelled (item_of x.0) ++ x.1.now)) }
-    ensures none { OnErr result ((item : recording.Item) (rest : List ℕ) → IsItem item → octets.now ≡ spelled item ++ rest → ⊥) }
+    ensures other { result ≡ Err ItemFault.FirstOctet → IsOther octets.now }
+    ensures cut { result ≡ Err ItemFault.CutShort → IsCutShort octets.now }
 {
     match octets {
-        [1, a, b, c, d, e, next @ ..] => {
-            let time = u64::from_be_bytes([0, 0, 0, *a, *b, *c, *d, *e]);
-            Ok((Item::Tick(time), next))
-        }
-        [2, feed, high, low, after @ ..] => {
-            let length = u16::from_be_bytes([*high, *low]) as usize;
-            if after.len() < length {
-                return Err(ItemFault::CutShort);
-            }
-            let (octets, next) = after.split_at(length);
-            Ok((
-                Item::Datagram {
-                    feed: *feed,
-                    octets,
-                },
-                next,
-            ))
-        }
-        [1 | 2, ..] => Err(ItemFault::CutShort),
+        [TICK, after @ ..] => match first_tick(after) {
+            Some(found) => Ok(found),
+            None => Err(ItemFault::CutShort),
+        },
+        [DATAGRAM, after @ ..] => match first_datagram(after) {
+            Some(found) => Ok(found),
+            None => Err(ItemFault::CutShort),
+        },
         _ => Err(ItemFault::FirstOctet),
     }
 }

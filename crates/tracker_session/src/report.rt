@@ -1,11 +1,13 @@
 // Target reports of CAT048 in the one form that the thin replay reads.
-ghost use Rattle.std.specs.Prelude.{◌≡◌, ◌<◌, ◌^◌, ◌≤◌, ◌*◌, ◌++◌, ◌∷◌, [], ℕ, ℤ, pos, List, length, IfSome, IfNone, IsTrue, unsigned_abs};
+ghost use Rattle.std.specs.Prelude.{◌≡◌, ◌<◌, ◌^◌, ◌≤◌, ◌*◌, ◌++◌, ◌∷◌, [], ℕ, ℤ, pos, List, length, vec_len, true, false, Ok, IfOk, IfSome, IfNone, IsTrue, unsigned_abs};
 ghost use Rattle.asterix_frame.specs.Blocks.{spelled};
 ghost use Rattle.tracker_session.specs.Picture.{half_metres};
+ghost use Rattle.tracker_session.specs.Taking.{TakesReports};
 ghost use Rattle.tracker_session.specs.Datagram.{Report, IsReport, IsDescriptor, IsBuilt, high_octet, record_of};
 
+use crate::picture::TRACK_LIMIT;
 use asterix_frame::first_block;
-use trk_base::{DAY, round_div};
+use trk_base::{DAY, NoMemory, round_div};
 
 /// The category of target reports.
 const TARGET_REPORTS: u8 = 48;
@@ -66,7 +68,7 @@ impl Plot {
 }
 
 // The plot of the report that the octets begin with, and what follows it.
-pub fn first_report(octets: &[u8]) -> Option<(Plot, &[u8])>
+fn first_report(octets: &[u8]) -> Option<(Plot, &[u8])>
     ensures found { IfSome result (λ x. (r : Report) × IsReport r × (octets.now ≡ record_of r ++ x.1.now) × (x.0 ≡ r.plot)) }
     ensures none { IfNone result ((r : Report) (rest : List ℕ) → IsReport r → octets.now ≡ record_of r ++ rest → ⊥) }
 {
@@ -119,7 +121,7 @@ fn is_detection(descriptor: u8) -> bool
 }
 
 // The target reports of a datagram that is one block of CAT048.
-pub fn reports_of(datagram: &[u8]) -> Option<&[u8]>
+fn reports_of(datagram: &[u8]) -> Option<&[u8]>
     ensures found { IfSome result (λ body. datagram.now ≡ spelled (record { category = 48; body = body.now })) }
     ensures none { IfNone result ((body : List ℕ) → length datagram.now < 2 ^ 16 → datagram.now ≡ spelled (record { category = 48; body = body }) → ⊥) }
 {
@@ -134,14 +136,30 @@ pub fn reports_of(datagram: &[u8]) -> Option<&[u8]>
     }
 }
 
-/// The plot of a datagram of one report.
-pub fn only_plot(datagram: &[u8]) -> Option<Plot>
-    ensures found { IfSome result (λ plot. (r : Report) × IsBuilt datagram.now (r ∷ []) × (plot ≡ r.plot)) }
-    ensures none { IfNone result ((r : Report) → length datagram.now < 2 ^ 16 → IsBuilt datagram.now (r ∷ []) → ⊥) }
+/// Takes the plots of a datagram behind those so far, as far as a picture has room. It is false
+/// where the datagram isn't built.
+pub fn take_reports(datagram: &[u8], positions: &mut Vec<Position>) -> Result<bool, NoMemory>
+    requires short { length datagram.now < 2 ^ 16 }
+    requires room { vec_len positions.old ≤ TRACK_LIMIT }
+    ensures room { vec_len positions.new ≤ TRACK_LIMIT }
+    ensures built { IfOk result (λ built. built ≡ true → TakesReports datagram.now positions.old.items positions.new.items) }
+    ensures other { result ≡ Ok false → (rs : List Report) → IsBuilt datagram.now rs → ⊥ }
 {
     let Some(reports) = reports_of(datagram) else {
-        return None;
+        return Ok(false);
     };
-    let (plot, rest) = first_report(reports)?;
-    if rest.is_empty() { Some(plot) } else { None }
+    if reports.is_empty() {
+        return Ok(false);
+    }
+    let mut rest = reports;
+    while !rest.is_empty() {
+        let Some((plot, next)) = first_report(rest) else {
+            return Ok(false);
+        };
+        if positions.len() < TRACK_LIMIT {
+            positions.push(plot.position())?;
+        }
+        rest = next;
+    }
+    Ok(true)
 }

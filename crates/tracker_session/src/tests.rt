@@ -18,7 +18,7 @@ const PICTURE: [u8; 19] = [
     0x00, 0x01, 0x80,
 ];
 
-/// The place of the high octet of the azimuth.
+/// The place of the high octet of its azimuth.
 const AZIMUTH: usize = 25;
 
 fn words(alloc: Global, texts: &[&str]) -> Result<Vec<String>, Fail> {
@@ -29,13 +29,14 @@ fn words(alloc: Global, texts: &[&str]) -> Result<Vec<String>, Fail> {
     Ok(words)
 }
 
-/// A host with this input, room for a thousand octets of output, and these calls that fail.
-fn host(alloc: Global, input: &[u8], fails: &[u64]) -> Result<MemHost, Fail> {
+/// A host with this input, room for so many octets of output, and these calls that fail.
+fn host(alloc: Global, input: &[u8], room: usize, fails: &[u64]) -> Result<MemHost, Fail> {
     let mut left = Vec::new(alloc);
     left.push((Place::Input, Vec::from_slice(alloc, input)?))?;
-    let mut room = Vec::new(alloc);
-    room.push((Place::Output, 1000))?;
-    Ok(MemHost::new(alloc, left, room, Vec::from_slice(alloc, fails)?)?)
+    let mut rooms = Vec::new(alloc);
+    rooms.push((Place::Output, room))?;
+    let fails = Vec::from_slice(alloc, fails)?;
+    Ok(MemHost::new(alloc, left, rooms, fails)?)
 }
 
 /// Replays the input over a host in memory, and compares the answer and what Output got.
@@ -51,7 +52,7 @@ fn compare(
         alloc,
         &["replay", "a.toml", "in.mrt", "out.cat062", "out.prices"],
     )?;
-    let mut host = host(alloc, input, fails)?;
+    let mut host = host(alloc, input, 1000, fails)?;
     let answer = run_batch(alloc, &words, &mut host);
     assert_eq!(rt; answer, status);
     assert_eq!(rt; host.got(Place::Output), output);
@@ -63,30 +64,138 @@ fn one_plot_north(rt: HostRuntime) -> Result<(), Fail> {
     compare(&rt, rt.alloc(), &ONE_PLOT, &[], Status::Done, &PICTURE)
 }
 
+/// The four quadrants: what is changed of the picture are X and Y.
 #[test]
-fn other_azimuth_is_not_built(rt: HostRuntime) -> Result<(), Fail> {
-    let mut input = ONE_PLOT;
-    input[AZIMUTH + 1] = 1;
-    compare(
-        &rt,
-        rt.alloc(),
-        &input,
-        &[],
-        Status::NotBuilt { item: 0 },
-        &[],
-    )
+fn quadrants(rt: HostRuntime) -> Result<(), Fail> {
+    let positions: [(u8, [u8; 6]); 4] = [
+        (0x00, [0x00, 0x00, 0x00, 0x00, 0x0E, 0x78]),
+        (0x40, [0x00, 0x0E, 0x78, 0x00, 0x00, 0x00]),
+        (0x80, [0x00, 0x00, 0x00, 0xFF, 0xF1, 0x88]),
+        (0xC0, [0xFF, 0xF1, 0x88, 0x00, 0x00, 0x00]),
+    ];
+    for (azimuth, position) in positions {
+        let mut input = ONE_PLOT;
+        input[AZIMUTH] = azimuth;
+        let mut picture = PICTURE;
+        picture[10..16].copy_from_slice(&position);
+        compare(&rt, rt.alloc(), &input, &[], Status::Done, &picture)?;
+    }
+    Ok(())
+}
+
+/// A tick at the last or before it gives nothing, and without plots an edition is empty.
+#[test]
+fn old_and_empty_ticks(rt: HostRuntime) -> Result<(), Fail> {
+    let alloc = rt.alloc();
+    let mut input = Vec::from_slice(alloc, &ONE_PLOT[..9])?;
+    compare(&rt, alloc, &input, &[], Status::Done, &[])?;
+    input.extend_from_slice(&ONE_PLOT[27..])?;
+    input.extend_from_slice(&ONE_PLOT[27..])?;
+    compare(&rt, alloc, &input, &[], Status::Done, &[])?;
+    input.extend_from_slice(&ONE_PLOT[9..])?;
+    compare(&rt, alloc, &input, &[], Status::Done, &[])
+}
+
+/// The octets behind a picture, and the answer that they give.
+#[test]
+fn faults_behind_a_picture(rt: HostRuntime) -> Result<(), Fail> {
+    let alloc = rt.alloc();
+    let endings: [(&[u8], Status); 6] = [
+        (&[], Status::Done),
+        (&[0x00], Status::Input { offset: 33 }),
+        (&[0x03], Status::Input { offset: 33 }),
+        (&[0x01, 0, 0, 0, 0], Status::Input { offset: 33 }),
+        (&[0x02, 0, 0, 1], Status::Input { offset: 33 }),
+        (&[0x02, 0, 0, 0, 0x09], Status::NotBuilt { item: 2 }),
+    ];
+    for (ending, status) in endings {
+        let mut input = Vec::from_slice(alloc, &ONE_PLOT)?;
+        input.extend_from_slice(ending)?;
+        compare(&rt, alloc, &input, &[], status, &PICTURE)?;
+    }
+    Ok(())
+}
+
+#[test]
+fn faults_before_a_picture(rt: HostRuntime) -> Result<(), Fail> {
+    let alloc = rt.alloc();
+    for (octets, offset) in [(4, 4), (8, 4), (10, 9), (26, 9), (28, 27), (32, 27)] {
+        compare(
+            &rt,
+            alloc,
+            &ONE_PLOT[..octets],
+            &[],
+            Status::Input { offset },
+            &[],
+        )?;
+    }
+    Ok(())
+}
+
+/// Each changes one octet of the recording.
+#[test]
+fn not_built(rt: HostRuntime) -> Result<(), Fail> {
+    for (place, octet) in [
+        (13, 0x22),
+        (15, 0x0D),
+        (16, 0xF8),
+        (18, 0x02),
+        (19, 0xA9),
+        (22, 0x00),
+        (22, 0xB0),
+        (22, 0xA2),
+        (22, 0xA1),
+        (AZIMUTH, 0x41),
+        (AZIMUTH + 1, 0x01),
+    ] {
+        let mut input = ONE_PLOT;
+        input[place] = octet;
+        let status = Status::NotBuilt { item: 0 };
+        compare(&rt, rt.alloc(), &input, &[], status, &[])?;
+    }
+    Ok(())
 }
 
 #[test]
 fn no_recording_is_not_built(rt: HostRuntime) -> Result<(), Fail> {
-    compare(
-        &rt,
-        rt.alloc(),
-        &ONE_PLOT[13..],
-        &[],
-        Status::NotBuilt { item: 0 },
-        &[],
-    )
+    let status = Status::NotBuilt { item: 0 };
+    compare(&rt, rt.alloc(), &ONE_PLOT[13..], &[], status, &[])?;
+    compare(&rt, rt.alloc(), &ONE_PLOT[..3], &[], status, &[])?;
+    compare(&rt, rt.alloc(), &[], &[], status, &[])
+}
+
+/// A block holds 87 records of 16 octets.
+#[test]
+fn two_blocks(rt: HostRuntime) -> Result<(), Fail> {
+    let alloc = rt.alloc();
+    let mut input = Vec::from_slice(alloc, &ONE_PLOT[..9])?;
+    for _ in 0..88 {
+        input.extend_from_slice(&ONE_PLOT[9..27])?;
+    }
+    input.extend_from_slice(&ONE_PLOT[27..])?;
+    let words = words(alloc, &["replay", "a", "b", "c", "d"])?;
+    let mut host = host(alloc, &input, 2000, &[])?;
+    let answer = run_batch(alloc, &words, &mut host);
+    assert_eq!(rt; answer, Status::Done);
+    let got = host.got(Place::Output);
+    assert_eq!(rt; got.len(), 1414);
+    assert_eq!(rt; &got[..3], [0x3E, 0x05, 0x73].as_slice());
+    let mut last = PICTURE;
+    last[17] = 88;
+    assert_eq!(rt; &got[1395..], last.as_slice());
+    Ok(())
+}
+
+/// Output has room for a front of the picture.
+#[test]
+fn writing_breaks_off(rt: HostRuntime) -> Result<(), Fail> {
+    let alloc = rt.alloc();
+    let words = words(alloc, &["replay", "a", "b", "c", "d"])?;
+    let mut host = host(alloc, &ONE_PLOT, 10, &[])?;
+    let answer = run_batch(alloc, &words, &mut host);
+    assert_eq!(rt; answer, Status::Write(Spot::Output));
+    assert_eq!(rt; host.got(Place::Output), &PICTURE[..10]);
+    Ok(())
 }
 
 /// The calls are the binding of Input, a read of all of it, a read at its end, the binding of
@@ -105,7 +214,7 @@ fn faults_are_told(rt: HostRuntime) -> Result<(), Fail> {
 fn places_are_bound_to_their_words(rt: HostRuntime) -> Result<(), Fail> {
     let alloc = rt.alloc();
     let words = words(alloc, &["replay", "a", "b", "c", "d"])?;
-    let mut host = host(alloc, &ONE_PLOT, &[])?;
+    let mut host = host(alloc, &ONE_PLOT, 1000, &[])?;
     let answer = run_batch(alloc, &words, &mut host);
     assert_eq!(rt; answer, Status::Done);
     assert_eq!(rt; host.bound(Place::Input), Some((Way::Read, "b")));
@@ -128,7 +237,7 @@ fn other_words_are_refused(rt: HostRuntime) -> Result<(), Fail> {
     ];
     for line in lines {
         let words = words(alloc, line)?;
-        let mut host = host(alloc, &ONE_PLOT, &[])?;
+        let mut host = host(alloc, &ONE_PLOT, 1000, &[])?;
         let answer = run_batch(alloc, &words, &mut host);
         assert_eq!(rt; answer, Status::Usage, "at {line:?}");
         assert_eq!(rt; host.bound(Place::Input), None);

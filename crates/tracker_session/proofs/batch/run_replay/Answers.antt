@@ -1,7 +1,7 @@
 use Rattle.std.proofs.Common.{◌∙◌, ◌≡◌, List, ℕ, subst}
 use Rattle.io_traits.specs.declared.host.Place.TheVariants as places
 use Rattle.tracker_session.specs.Answers.{Answers, ReplayedFront}
-use Rattle.tracker_session.proofs.Outcomes.{replayed_all, front_all, front_none}
+use Rattle.tracker_session.proofs.Outcomes.{replayed_all, front_all, front_none, done_so, faultless}
 use Rattle.tracker_session.proofs.batch.run_replay.Goals as goal
 
 pub returns-in-Ok-open_output-clause-answer : goal.returns-in-Ok-open_output-clause-answer
@@ -21,3 +21,14 @@ returns-in-Ok-open_output-clause-front g c = λ octets has.
 pub returns-clause-front : goal.returns-clause-front
 returns-clause-front g c = λ octets has output status replays.
     front_none (g.H.Host.state c.args.host.now) (g.H.Host.state c.open_output.new.host) output (c.in-Err-open_output.ensures.got places.Output ∙ c.in-Ok.ensures.uses.got places.Output)
+
+pub returns-in-Err-clause-front : goal.returns-in-Err-clause-front
+returns-in-Err-clause-front g c = λ octets has output status replays.
+    front_none (g.H.Host.state c.args.host.now) (g.H.Host.state c.read_input.new.host) output (c.in-Err.ensures.uses.got places.Output)
+
+pub returns-in-Ok-open_output-clause-done : goal.returns-in-Ok-open_output-clause-done
+returns-in-Ok-open_output-clause-done g c = λ e.
+    let state = g.H.Host.state in
+    let answer = subst (λ (o : List ℕ). Answers o c.replay.result (state c.open_output.new.host) (state c.replay.new.host)) c.deref.ensures.value c.replay.ensures.answer in
+    let done = done_so c.in-Ok.octets.items c.replay.result (state c.open_output.new.host) (state c.replay.new.host) e answer in
+    faultless c.args.input.now c.args.output.now c.in-Ok.octets.items (state c.args.host.now) (state c.read_input.new.host) (state c.open_output.new.host) (state c.replay.new.host) c.in-Ok.ensures.read c.in-Ok.ensures.uses c.in-Ok-open_output.ensures.ok c.in-Ok-open_output.ensures.uses c.replay.ensures.uses done
