@@ -4,10 +4,13 @@
 mod block;
 pub mod cause;
 mod framing;
+mod presence;
+mod tables;
 mod writer;
 
 pub use block::{Block, BlocksError, Malformed};
 pub use framing::{blocks, first_block, one_reading};
+pub use tables::{Compound, Item, Subfield, Uap};
 pub use writer::{BLOCK_LIMIT, BlockWriter, RECORD_LIMIT, one_setting};
 
 #[cfg(test)]
