@@ -4,6 +4,7 @@
 mod block;
 pub mod cause;
 mod framing;
+mod items;
 mod presence;
 mod tables;
 mod writer;
