@@ -28,6 +28,7 @@ pub(crate) fn item_len(item: &Item, octets: &[u8]) -> Result<usize, ItemError>
     requires { is_item item.now ≡ true }
     ensures found { IfOk result (λ n. (n ≤ length octets.now) × IsItem item.now (take n octets.now)) }
     ensures none { IfErr result (λ e. BeginsNoItem item.now octets.now e.inside e.cause) }
+    ensures within { IfErr result (λ e. e.inside ≤ length octets.now) }
 {
     match item {
         Item::Spare => unreachable!(),
@@ -67,6 +68,7 @@ fn repeated_len(size: u8, octets: &[u8]) -> Option<usize>
 fn explicit_len(octets: &[u8]) -> Result<usize, ItemError>
     ensures found { IfOk result (λ n. (n ≤ length octets.now) × IsExplicit (take n octets.now)) }
     ensures none { IfErr result (λ e. BeginsNoExplicit octets.now e.cause × (e.inside ≡ 0)) }
+    ensures within { IfErr result (λ e. e.inside ≤ length octets.now) }
 {
     match octets {
         [] => Err(ENDS),
@@ -93,6 +95,7 @@ fn subfield_len(subfield: &Subfield, octets: &[u8]) -> Option<usize>
 fn compound_len(compound: Compound, octets: &[u8]) -> Result<usize, ItemError>
     ensures found { IfOk result (λ n. (n ≤ length octets.now) × IsCompound (subfields_of compound) (take n octets.now)) }
     ensures none { IfErr result (λ e. BeginsNoCompound (subfields_of compound) octets.now e.inside e.cause) }
+    ensures within { IfErr result (λ e. e.inside ≤ length octets.now) }
 {
     let subfields = compound.subfields();
     match field_len(Names::Subfields(subfields), octets) {

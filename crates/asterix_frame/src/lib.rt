@@ -7,11 +7,13 @@ mod framing;
 mod items;
 mod presence;
 mod tables;
+mod walk;
 mod writer;
 
 pub use block::{Block, BlocksError, Malformed};
 pub use framing::{blocks, first_block, one_reading};
 pub use tables::{Compound, Item, Subfield, Uap};
+pub use walk::{ItemWalk, walk_items};
 pub use writer::{BLOCK_LIMIT, BlockWriter, RECORD_LIMIT, one_setting};
 
 #[cfg(test)]

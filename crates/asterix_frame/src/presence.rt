@@ -9,7 +9,7 @@ use crate::tables::{Item, Subfield};
 pub(crate) const FX: u8 = 1;
 
 /// The numbers that a table has at most, since an FSPEC of five octets names no item.
-const MOST_NUMBERS: usize = 28;
+pub(crate) const MOST_NUMBERS: usize = 28;
 
 /// What the bits of a field name, by number.
 #[derive(Clone, Copy)]
