@@ -6,3 +6,4 @@ pub mod Fronts
 pub mod Walked
 pub mod Codes
 pub mod ItemCodes
+pub mod RecordCodes

@@ -2,6 +2,7 @@
 use Rattle.std.specs.Prelude.{◌≡◌, ℕ, ◌+◌, Bool, List, [], ◌∷◌, length, drop, Result, Ok, Err}
 use Rattle.asterix_frame.specs.declared.cause.TheConstants.{FSPEC_END, SPARE_FRN}
 use Rattle.asterix_frame.specs.declared.block.Malformed.{Malformed}
+use Rattle.asterix_frame.specs.declared.block.Block.{Block}
 use Rattle.asterix_frame.specs.declared.tables.Item.{Item}
 use Rattle.asterix_frame.specs.Presence.{EndsInField, HasSpare}
 use Rattle.asterix_frame.specs.Parts.{Part, Begins, octets_of}
@@ -47,6 +48,10 @@ pub data RecordFault (table : List Item) (body : List ℕ) (from : ℕ) (found :
   ends_in_fspec : EndsInField (knows table) (drop from body) → found ≡ [] → place ≡ length body → cause ≡ FSPEC_END → RecordFault table body from found place cause
   has_spare : (inside : ℕ) → HasSpare (knows table) (drop from body) inside → found ≡ [] → place ≡ from + inside → cause ≡ SPARE_FRN → RecordFault table body from found place cause
   in_item : FaultyItem table body from found place cause → RecordFault table body from found place cause
+
+-- what is told of a block that has no whole record from that place of its body on
+abbrev pub IsFaultOfRecord : List Item → Block → ℕ → Malformed → Type 0
+IsFaultOfRecord table block from m = (found : List (ℕ × ℕ × ℕ)) × (place : ℕ) × (m.offset ≡ block.at + place) × RecordFault table block.body.now from found place m.cause
 
 -- what a walk over one record tells of a body that lies at an offset of its datagram
 abbrev pub Walks : List Item → ℕ → List ℕ → ℕ → List (ℕ × ℕ × ℕ) → Result ℕ Malformed → Type 0
