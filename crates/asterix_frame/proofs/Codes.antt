@@ -41,11 +41,11 @@ extended_ends p x count h on =
     elim (cases_lt count (length p)) [
       | inl lt ↦ lt
       | inr ge ↦
-        let some = h.some in
-        let same : get_or (p ++ x) (length p - 1) 0 ≡ get_or p (length p - 1) 0 = get_or_append_left p x 0 (length p - 1) (omega arith) in
-        let set : fx (get_or (p ++ x) (length p - 1) 0) ≡ 1 = on (length p - 1) (omega arith) in
-        let one-zero : ◌≡◌ {A = ℕ} 1 0 = sym set ∙ ap fx same ∙ h.ends in
-        omega arith
+          let some = h.some in
+          let same : get_or (p ++ x) (length p - 1) 0 ≡ get_or p (length p - 1) 0 = get_or_append_left p x 0 (length p - 1) (omega arith) in
+          let set : fx (get_or (p ++ x) (length p - 1) 0) ≡ 1 = on (length p - 1) (omega arith) in
+          let one-zero : ◌≡◌ {A = ℕ} 1 0 = sym set ∙ ap fx same ∙ h.ends in
+          omega arith
     ]
 
 -- ---- fields
@@ -98,9 +98,9 @@ module _ (known : ℕ → Bool) (IsPart : ℕ → List ℕ → Type 0) (None : �
       elim s.stops [
         | inl nil ↦ (let e : q.number ∷ more ≡ [] = sym l ∙ nil in cc)
         | inr (n, more', inside, cause, e, none) ↦
-          let same : n ≡ q.number = (let f : n ∷ more' ≡ q.number ∷ more = sym e ∙ l in cc) in
-          let none' : None q.number (q.octets ++ after) inside cause = subst (λ k. None k (q.octets ++ after) inside cause) same (subst (λ t. None n t inside cause) r none) in
-          (codes q.number).not_both q.octets after inside cause h none'
+            let same : n ≡ q.number = (let f : n ∷ more' ≡ q.number ∷ more = sym e ∙ l in cc) in
+            let none' : None q.number (q.octets ++ after) inside cause = subst (λ k. None k (q.octets ++ after) inside cause) same (subst (λ t. None n t inside cause) r none) in
+            (codes q.number).not_both q.octets after inside cause h none'
       ]
 
   parts_same : (ps qs : List Part) (left left' rest rest' : List ℕ) → AllByRecursion (λ p. IsPart p.number p.octets) ps → AllByRecursion (λ p. IsPart p.number p.octets) qs

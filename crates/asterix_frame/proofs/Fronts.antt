@@ -110,7 +110,7 @@ pub read_whole : (known : ℕ → Bool) (IsPart : ℕ → List ℕ → Type 0) (
     → present_from field n (7 * length field - n) ≡ [] → Begins known IsPart (take at octets) field parts [] []
 read_whole known IsPart octets field n at parts r none =
     let front : take at octets ≡ field ++ octets_of parts =
-      ap (take at) (r.begins.whole ∙ sym (append_assoc field (octets_of parts) (drop at octets))) ∙ take_at (field ++ octets_of parts) (drop at octets) at (length-append field (octets_of parts) ∙ sym r.at_is) in
+    ap (take at) (r.begins.whole ∙ sym (append_assoc field (octets_of parts) (drop at octets))) ∙ take_at (field ++ octets_of parts) (drop at octets) at (length-append field (octets_of parts) ∙ sym r.at_is) in
     record {
       is_field = r.begins.is_field;
       in_order = r.begins.in_order ∙ ap (λ t. numbers parts ++ t) none;

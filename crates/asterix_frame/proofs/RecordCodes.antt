@@ -34,8 +34,7 @@ module _ (table : List Item) (body : List ℕ) (from : ℕ) where
 
   pub one_record : (found found' : List (ℕ × ℕ × ℕ)) (next next' : ℕ) → HasRecord table body from found next → HasRecord table body from found' next' → (found ≡ found') × (next ≡ next')
   one_record found found' next next' a b =
-      let same = record_same table (drop from body) a.fspec b.fspec a.items b.items [] [] (drop next body) (drop next' body) a.begins b.begins (whole_stops table (drop next body)) (whole_stops table (drop next' body)) in
-      (
+      let same = record_same table (drop from body) a.fspec b.fspec a.items b.items [] [] (drop next body) (drop next' body) a.begins b.begins (whole_stops table (drop next body)) (whole_stops table (drop next' body)) in (
         a.found_are ∙ (λ i. spans (from + length (same.0 i)) (same.1 i)) ∙ sym b.found_are,
         a.next_is ∙ (λ i. from + length (same.0 i) + length (octets_of (same.1 i))) ∙ sym b.next_is,
       )
@@ -55,8 +54,7 @@ module _ (table : List Item) (body : List ℕ) (from : ℕ) where
       let number : a.number ≡ b.number = cc in
       let none : BeginsNoItem (item_at table b.number) (drop b.at body) a.inside cause = subst (λ n. BeginsNoItem (item_at table n) (drop b.at body) a.inside cause) number (subst (λ t. BeginsNoItem (item_at table a.number) t a.inside cause) same.3 a.none) in
       let fault = (item_code (item_at table b.number)).one_fault (drop b.at body) a.inside cause b.inside cause' none b.none in
-      let at : a.at ≡ b.at = a.at_is ∙ (λ i. from + length (same.0 i) + length (octets_of (same.1 i))) ∙ sym b.at_is in
-      (
+      let at : a.at ≡ b.at = a.at_is ∙ (λ i. from + length (same.0 i) + length (octets_of (same.1 i))) ∙ sym b.at_is in (
         a.found_are ∙ (λ i. spans (from + length (same.0 i)) (same.1 i)) ∙ sym b.found_are,
         a.place_is ∙ (λ i. at i + fault.0 i) ∙ sym b.place_is,
         fault.1,

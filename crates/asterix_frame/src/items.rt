@@ -45,7 +45,11 @@ fn fixed_len(size: u8, octets: &[u8]) -> Option<usize>
     ensures ends { IfNone result (length octets.now < size) }
 {
     let size = size as usize;
-    if size <= octets.len() { Some(size) } else { None }
+    if size <= octets.len() {
+        Some(size)
+    } else {
+        None
+    }
 }
 
 fn extended_len(octets: &[u8]) -> Option<usize>
@@ -62,7 +66,11 @@ fn repeated_len(size: u8, octets: &[u8]) -> Option<usize>
 {
     let (count, rest) = octets.split_first()?;
     let len = *count as usize * size as usize;
-    if len <= rest.len() { Some(len + 1) } else { None }
+    if len <= rest.len() {
+        Some(len + 1)
+    } else {
+        None
+    }
 }
 
 fn explicit_len(octets: &[u8]) -> Result<usize, ItemError>

@@ -40,8 +40,12 @@ impl Names<'_> {
         ensures { result ≡ known self.entry (7 * place + bit) }
     {
         match self {
-            Names::Items(items) => place < items.len() && items.get(7 * place + bit).is_some_and(Item::is_item),
-            Names::Subfields(subfields) => place < subfields.len() && subfields.get(7 * place + bit).is_some_and(Subfield::is_subfield),
+            Names::Items(items) => place < items.len()
+                && items.get(7 * place + bit).is_some_and(Item::is_item),
+            Names::Subfields(subfields) => place < subfields.len()
+                && subfields
+                    .get(7 * place + bit)
+                    .is_some_and(Subfield::is_subfield),
         }
     }
 

@@ -39,7 +39,12 @@ pub struct ItemWalk {
 /// The items of the record that begins at a place of a block's body.
 ///
 /// It is refused exactly where no whole record begins there, by the first fault from the left, with one of the causes `FSPEC_END` to `UNKNOWN_SUBFIELD`. Each octet of the FSPEC and of a primary field is judged before the next one is asked for.
-pub fn walk_record(alloc: Global, uap: Uap, block: &Block<'_>, from: usize) -> Result<ItemSpans, WalkError>
+pub fn walk_record(
+    alloc: Global,
+    uap: Uap,
+    block: &Block<'_>,
+    from: usize,
+) -> Result<ItemSpans, WalkError>
     requires { from < length block.now.body.now }
     ensures found { IfOk result (λ s. HasRecord (table_of uap) block.now.body.now from s.frns.items s.next) }
     ensures malformed { IfMalformed result (λ m. IsFaultOfRecord (table_of uap) block.now from m) }
@@ -58,7 +63,12 @@ pub fn walk_record(alloc: Global, uap: Uap, block: &Block<'_>, from: usize) -> R
 /// The items of the record that begins at a place of a block's body, as far as they are whole.
 ///
 /// A fault is told with one of the causes `FSPEC_END` to `UNKNOWN_SUBFIELD`; a fault of the FSPEC comes before all items.
-pub fn walk_items(alloc: Global, uap: Uap, block: &Block<'_>, from: usize) -> Result<ItemWalk, NoMemory>
+pub fn walk_items(
+    alloc: Global,
+    uap: Uap,
+    block: &Block<'_>,
+    from: usize,
+) -> Result<ItemWalk, NoMemory>
     requires { from < length block.now.body.now }
     ensures { IfOk result (λ w. Walks (table_of uap) block.now.at block.now.body.now from w.frns.items w.end) }
 {
@@ -83,7 +93,13 @@ pub fn walk_items(alloc: Global, uap: Uap, block: &Block<'_>, from: usize) -> Re
 }
 
 // The items that an FSPEC of so many octets names.
-fn walk_named(alloc: Global, table: &[Item], block: &Block<'_>, from: usize, fspec: usize) -> Result<ItemWalk, NoMemory>
+fn walk_named(
+    alloc: Global,
+    table: &[Item],
+    block: &Block<'_>,
+    from: usize,
+    fspec: usize,
+) -> Result<ItemWalk, NoMemory>
     requires few { length table.now ≤ MOST_NUMBERS }
     requires from { from ≤ length block.now.body.now }
     requires within { fspec ≤ length (drop from block.now.body.now) }
@@ -122,5 +138,4 @@ fn walk_named(alloc: Global, table: &[Item], block: &Block<'_>, from: usize, fsp
 /// A walk has one answer: a record with its items, or the first fault with the items before it.
 pub fn one_walk()
     ensures { (table : List Item) (body : List ℕ) (from offset : ℕ) (spans spans' : List (ℕ × ℕ × ℕ)) (end end' : Result ℕ Malformed) → Walks table offset body from spans end → Walks table offset body from spans' end' → (spans ≡ spans') × (end ≡ end') }
-{
-}
+{}

@@ -37,9 +37,9 @@ loop-number-preserved c =
     let below : n < 7 * length (take c.args.primary octets) = omega (arith, length-take c.args.primary octets) in
     elim c.if-is_present.branch [
       | then-is_present+in_ok-end w ↦
-        let len = w.in_ok-end.field-0 in
-        let found = rw (take_rest octets at) at w.in_ok-end.ensures.found in
-        (inv.0 ++ record { number = n; octets = take len (drop at octets) } ∷ [], rw w.end-is (read_more _ _ octets _ n at len inv.0 inv.1 below (c.is_present.ensures.0 w.if-is_present.true) found.0 found.1))
+          let len = w.in_ok-end.field-0 in
+          let found = rw (take_rest octets at) at w.in_ok-end.ensures.found in
+          (inv.0 ++ record { number = n; octets = take len (drop at octets) } ∷ [], rw w.end-is (read_more _ _ octets _ n at len inv.0 inv.1 below (c.is_present.ensures.0 w.if-is_present.true) found.0 found.1))
       | else-is_present w ↦ (inv.0, rw w.end-is (read_less _ _ octets _ n at inv.0 inv.1 below (iff_false c.is_present.ensures w.if-is_present.false)))
     ]
 
