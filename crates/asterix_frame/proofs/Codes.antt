@@ -1,11 +1,10 @@
 -- Octets begin one thing at most: a whole field, part, item or record, or one fault.
-use Rattle.std.proofs.Common.{◌≡◌, ◌∙◌, ap, sym, refl, subst, inl, inr, suc, ℕ, ◌+◌, ◌-◌, ◌*◌, ◌/◌, ◌%◌, ◌<◌, ◌≤◌, ◌⊎◌, Bool, true, false, List, [], ◌∷◌, ◌++◌, length, get_or, arith, append_assoc, append-nil, length-append}
-use Rattle.std.specs.Prelude.{map, ⊤}
-use Rattle.std.specs.List.{flat_map, AllByRecursion}
+use Rattle.std.proofs.Common.{◌≡◌, ◌∙◌, ap, sym, refl, subst, inl, inr, ℕ, ◌-◌, ◌/◌, ◌%◌, ◌<◌, ◌⊎◌, Bool, List, [], ◌∷◌, ◌++◌, length, get_or, arith, append_assoc, length-append}
+use Rattle.std.specs.List.{AllByRecursion}
 use Rattle.std.specs.Int.{bit_at}
 use Rattle.std.proofs.lemmas.Bool.{cases_order, cases_lt}
 use Rattle.std.proofs.lemmas.List.{get_or_append_left}
-use Rattle.asterix_frame.specs.Presence.{fx, presence, present, IsExtended, IsField, GoesOn, EndsInField, HasSpare}
+use Rattle.asterix_frame.specs.Presence.{fx, presence, present, IsExtended, IsField, EndsInField, HasSpare}
 use Rattle.asterix_frame.specs.Parts.{Part, Begins, numbers, octets_of}
 use Rattle.asterix_frame.proofs.Heads.{split_same}
 

@@ -1,10 +1,10 @@
 -- A field and the parts behind it, read number by number.
 use Rattle.std.proofs.Common.{◌≡◌, ◌∙◌, ap, sym, refl, subst, inl, inr, zero, suc, ℕ, ◌+◌, ◌-◌, ◌*◌, ◌/◌, ◌<◌, ◌≤◌, Bool, true, false, List, [], ◌∷◌, ◌++◌, length, take, drop, arith, append_assoc, append-nil, length-append, length-take, length-drop, eq-eqb, add-one}
-use Rattle.std.specs.Prelude.{map, ◌==◌, if◌then◌else◌, ⊤}
-use Rattle.std.specs.List.{flat_map, AllByRecursion}
+use Rattle.std.specs.Prelude.{if◌then◌else◌}
+use Rattle.std.specs.List.{AllByRecursion}
 use Rattle.std.proofs.lemmas.Bool.{cases_eq, ne_eqb}
 use Rattle.std.proofs.lemmas.List.{take-append-drop, take_at, drop-drop}
-use Rattle.asterix_frame.specs.Presence.{IsField, presence, present, present_from}
+use Rattle.asterix_frame.specs.Presence.{IsField, presence, present_from}
 use Rattle.asterix_frame.specs.Parts.{Part, Begins, numbers, octets_of}
 
 pub present_more : (field : List ℕ) (n count : ℕ) → presence field n ≡ 1 → present_from field n (suc count) ≡ n ∷ present_from field (suc n) count

@@ -1,15 +1,14 @@
 -- Octets begin at most one item of a shape, or one fault, and at most one record.
-use Rattle.std.proofs.Common.{◌≡◌, ◌∙◌, ap, sym, refl, subst, inl, inr, zero, suc, ℕ, ◌+◌, ◌*◌, ◌<◌, ◌≤◌, ◌⊎◌, List, [], ◌∷◌, ◌++◌, length, get_or, drop, arith, append_assoc, append-nil, length-append, length-drop, Result, Ok, Err}
-use Rattle.asterix_frame.specs.declared.block.Malformed.{Malformed}
+use Rattle.std.proofs.Common.{◌≡◌, ◌∙◌, ap, sym, refl, subst, inl, inr, zero, suc, ℕ, ◌+◌, ◌*◌, List, [], ◌∷◌, ◌++◌, length, arith, length-append}
 use Rattle.asterix_frame.specs.declared.cause.TheConstants.{ITEM_END}
 use Rattle.asterix_frame.specs.declared.tables.Item.{Item}
 use Rattle.asterix_frame.specs.declared.tables.Item.TheVariants as items
 use Rattle.asterix_frame.specs.declared.tables.Subfield.{Subfield}
 use Rattle.asterix_frame.specs.declared.tables.Subfield.TheVariants as subfields
 use Rattle.asterix_frame.specs.Tables.{subfields_of}
-use Rattle.asterix_frame.specs.Presence.{fx, EndsInField, HasSpare}
-use Rattle.asterix_frame.specs.Parts.{Part, Begins, octets_of}
-use Rattle.asterix_frame.specs.Items.{IsRepeated, EndsInRepeated, IsExplicit, BeginsNoExplicit, IsSubfield, EndsInSubfield, is_subfield, subfield_at, BeginsCompound, IsCompound, EndsInNext, BeginsNoCompound, ends_in_field, has_spare, ends_in_subfield, IsItem, BeginsNoItem, item_at}
+use Rattle.asterix_frame.specs.Presence.{EndsInField, HasSpare}
+use Rattle.asterix_frame.specs.Parts.{Part, octets_of}
+use Rattle.asterix_frame.specs.Items.{IsRepeated, EndsInRepeated, IsExplicit, BeginsNoExplicit, IsSubfield, EndsInSubfield, is_subfield, subfield_at, BeginsCompound, IsCompound, EndsInNext, BeginsNoCompound, ends_in_field, has_spare, ends_in_subfield, IsItem, BeginsNoItem}
 use Rattle.asterix_frame.proofs.Codes.{IsCode, extended_one, extended_ends, field_not_ends, field_not_spare, ends_not_spare, one_spare, Stops, begins_same, begins_on}
 
 -- ---- repeated and explicit items

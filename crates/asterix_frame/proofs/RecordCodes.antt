@@ -1,9 +1,9 @@
 -- A place of a body begins one record, or has one fault.
-use Rattle.std.proofs.Common.{◌≡◌, ◌∙◌, ap, sym, refl, subst, inl, inr, ℕ, ◌+◌, ◌⊎◌, List, [], ◌∷◌, ◌++◌, length, drop, Result, Ok, Err}
+use Rattle.std.proofs.Common.{◌≡◌, ◌∙◌, ap, sym, refl, subst, inl, inr, ℕ, ◌+◌, List, [], ◌∷◌, ◌++◌, length, drop, Result, Ok, Err}
 use Rattle.asterix_frame.specs.declared.block.Malformed.{Malformed}
 use Rattle.asterix_frame.specs.declared.tables.Item.{Item}
 use Rattle.asterix_frame.specs.Presence.{EndsInField, HasSpare}
-use Rattle.asterix_frame.specs.Parts.{Part, Begins, octets_of}
+use Rattle.asterix_frame.specs.Parts.{Part, octets_of}
 use Rattle.asterix_frame.specs.Items.{IsItem, BeginsNoItem, item_at}
 use Rattle.asterix_frame.specs.Records.{knows, BeginsRecord, spans, HasRecord, FaultyItem, RecordFault, ends_in_fspec, has_spare, in_item, Walks}
 use Rattle.asterix_frame.proofs.Codes.{field_not_ends, field_not_spare, ends_not_spare, one_spare, Stops, begins_same}

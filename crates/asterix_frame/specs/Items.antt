@@ -1,11 +1,10 @@
 -- The octets of an item by its shape, and octets that begin none.
-use Rattle.std.specs.Prelude.{◌≡◌, ⊤, ℕ, zero, suc, ◌+◌, ◌-◌, ◌*◌, ◌<◌, Bool, true, false, List, [], ◌∷◌, length, slice_index, slice_index_or}
+use Rattle.std.specs.Prelude.{◌≡◌, ⊤, ℕ, zero, suc, ◌*◌, ◌<◌, Bool, true, false, List, [], ◌∷◌, length, slice_index, slice_index_or}
 use Rattle.asterix_frame.specs.declared.cause.TheConstants.{ITEM_END, LENGTH_ZERO, UNKNOWN_SUBFIELD}
 use Rattle.asterix_frame.specs.declared.tables.Item.{Item}
 use Rattle.asterix_frame.specs.declared.tables.Item.TheVariants as items
 use Rattle.asterix_frame.specs.declared.tables.Subfield.{Subfield}
 use Rattle.asterix_frame.specs.declared.tables.Subfield.TheVariants as subfields
-use Rattle.asterix_frame.specs.declared.tables.Compound.{Compound}
 use Rattle.asterix_frame.specs.Tables.{subfields_of}
 use Rattle.asterix_frame.specs.Presence.{fx, IsExtended, EndsInField, HasSpare}
 use Rattle.asterix_frame.specs.Parts.{Part, Begins}

@@ -1,5 +1,5 @@
 -- A field of presence bits, and behind it the parts that it names, in order: the items of a record, or the subfields of a compound item.
-use Rattle.std.specs.Prelude.{◌≡◌, ⊤, ℕ, ◌+◌, Bool, List, [], ◌∷◌, ◌++◌, length, map}
+use Rattle.std.specs.Prelude.{◌≡◌, ℕ, Bool, List, ◌++◌, map}
 use Rattle.std.specs.List.{flat_map, AllByRecursion}
 use Rattle.asterix_frame.specs.Presence.{IsField, present}
 

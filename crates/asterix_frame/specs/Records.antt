@@ -1,5 +1,5 @@
 -- Records: an FSPEC, and behind it the items that it names, by the table of the category.
-use Rattle.std.specs.Prelude.{◌≡◌, ℕ, ◌+◌, Bool, List, [], ◌∷◌, length, drop, Result, Ok, Err}
+use Rattle.std.specs.Prelude.{◌≡◌, ℕ, ◌+◌, ◌≤◌, Bool, List, [], ◌∷◌, length, drop, Result, Ok, Err}
 use Rattle.asterix_frame.specs.declared.cause.TheConstants.{FSPEC_END, SPARE_FRN}
 use Rattle.asterix_frame.specs.declared.block.Malformed.{Malformed}
 use Rattle.asterix_frame.specs.declared.block.Block.{Block}
@@ -20,6 +20,10 @@ BeginsRecord table = Begins (knows table) (λ n octets. IsItem (item_at table n)
 abbrev pub spans : ℕ → List Part → List (ℕ × ℕ × ℕ)
 spans at [] = []
 spans at (p ∷ ps) = (p.number + 1, at, at + length p.octets) ∷ spans (at + length p.octets) ps
+
+-- it lies in the body
+abbrev pub LiesIn : List ℕ → ℕ × ℕ × ℕ → Type 0
+LiesIn body span = (span.1 ≤ span.2) × (span.2 ≤ length body)
 
 -- from that place on the body has a whole record, with items at these places, and its end
 pub record HasRecord (table : List Item) (body : List ℕ) (from : ℕ) (found : List (ℕ × ℕ × ℕ)) (next : ℕ) : Type 0 where

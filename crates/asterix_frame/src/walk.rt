@@ -1,11 +1,11 @@
 // The items of a record.
-ghost use Rattle.std.specs.Prelude.{◌≡◌, ◌≤◌, ◌<◌, ℕ, List, Result, length, take, drop, IfOk};
+ghost use Rattle.std.specs.Prelude.{◌≡◌, ◌≤◌, ◌<◌, ℕ, List, Result, length, take, drop, All, IfOk};
 ghost use Rattle.asterix_frame.specs.declared.block.Malformed.{Malformed};
 ghost use Rattle.asterix_frame.specs.declared.tables.Item.{Item};
 ghost use Rattle.asterix_frame.specs.Answers.{IfMalformed, Reads, Refuses};
 ghost use Rattle.asterix_frame.specs.Tables.{table_of};
 ghost use Rattle.asterix_frame.specs.Presence.{IsField};
-ghost use Rattle.asterix_frame.specs.Records.{knows, HasRecord, IsFaultOfRecord, Walks};
+ghost use Rattle.asterix_frame.specs.Records.{knows, LiesIn, HasRecord, IsFaultOfRecord, Walks};
 
 use crate::cause::{FSPEC_END, SPARE_FRN};
 use crate::items::item_len;
@@ -47,6 +47,8 @@ pub fn walk_record(
 ) -> Result<ItemSpans, WalkError>
     requires { from < length block.now.body.now }
     ensures found { IfOk result (λ s. HasRecord (table_of uap) block.now.body.now from s.frns.items s.next) }
+    ensures within { IfOk result (λ s. All (LiesIn block.now.body.now) s.frns.items) }
+    ensures advances { IfOk result (λ s. (from < s.next) × (s.next ≤ length block.now.body.now)) }
     ensures malformed { IfMalformed result (λ m. IsFaultOfRecord (table_of uap) block.now from m) }
 
     // The other directions, unless memory is wanting.
@@ -70,7 +72,9 @@ pub fn walk_items(
     from: usize,
 ) -> Result<ItemWalk, NoMemory>
     requires { from < length block.now.body.now }
-    ensures { IfOk result (λ w. Walks (table_of uap) block.now.at block.now.body.now from w.frns.items w.end) }
+    ensures walks { IfOk result (λ w. Walks (table_of uap) block.now.at block.now.body.now from w.frns.items w.end) }
+    ensures within { IfOk result (λ w. All (LiesIn block.now.body.now) w.frns.items) }
+    ensures advances { IfOk result (λ w. IfOk w.end (λ next. (from < next) × (next ≤ length block.now.body.now))) }
 {
     let table = uap.table();
     match field_len(Names::Items(table), &block.body[from..]) {

@@ -1,4 +1,4 @@
-use Rattle.std.proofs.Common.{◌≡◌, ℕ, List, take}
+use Rattle.std.proofs.Common.{List, take}
 use Rattle.asterix_frame.specs.Items.{IsSubfield, is_subfield, subfield_at}
 use Rattle.asterix_frame.specs.Parts.{Part}
 use Rattle.asterix_frame.proofs.Fronts.{ReadTo}

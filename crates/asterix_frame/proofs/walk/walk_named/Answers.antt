@@ -1,12 +1,12 @@
-use Rattle.std.proofs.Common.{◌≡◌, ◌∙◌, refl, ap, sym, ◌+◌, ◌-◌, ◌*◌, ◌/◌, ◌≤◌, ◌<◌, ℕ, suc, true, false, List, [], ◌∷◌, ◌++◌, length, take, drop, arith, length-take, length-drop}
+use Rattle.std.proofs.Common.{◌≡◌, ◌∙◌, refl, ap, sym, ◌+◌, ◌-◌, ◌*◌, ◌<◌, suc, [], ◌∷◌, ◌++◌, length, take, drop, arith, length-take}
 use Rattle.std.proofs.lemmas.List.{get_or_past, take_rest}
 use Rattle.std.proofs.lemmas.Bool.{iff_false}
 use Rattle.asterix_frame.specs.declared.tables.Item.TheVariants as items
-use Rattle.asterix_frame.specs.Items.{IsItem, BeginsNoItem, is_item, item_at}
+use Rattle.asterix_frame.specs.Items.{IsItem, item_at}
 use Rattle.asterix_frame.specs.Parts.{Part, octets_of}
 use Rattle.asterix_frame.specs.Presence.{present_from}
-use Rattle.asterix_frame.specs.Records.{knows, spans, in_item, BeginsRecord}
-use Rattle.asterix_frame.proofs.Fronts.{ReadTo, read_none, read_more, read_less, read_next, read_all, past_field, present_none}
+use Rattle.asterix_frame.specs.Records.{knows, spans, in_item}
+use Rattle.asterix_frame.proofs.Fronts.{read_none, read_more, read_less, read_next, read_all, past_field, present_none}
 use Rattle.asterix_frame.proofs.Walked.{spans_more, left_at}
 use Rattle.asterix_frame.proofs.walk.walk_named.Goals as goal
 use Rattle.asterix_frame.proofs.walk.walk_named.Goals.{then-is_present+in-Ok+in_ok-push-in-Ok, else-is_present, else-loop-number-test, then-loop-number-test+then-number-fspec}

@@ -1,4 +1,4 @@
-use Rattle.std.proofs.Common.{◌≡◌, ℕ, ◌+◌, List, length, take, drop}
+use Rattle.std.proofs.Common.{◌≡◌, ◌+◌, List, take, drop}
 use Rattle.asterix_frame.specs.Items.{IsItem, item_at}
 use Rattle.asterix_frame.specs.Parts.{Part}
 use Rattle.asterix_frame.specs.Records.{knows, spans}
