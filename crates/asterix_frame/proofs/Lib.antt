@@ -7,3 +7,4 @@ pub mod Walked
 pub mod Codes
 pub mod ItemCodes
 pub mod RecordCodes
+pub mod Totals

@@ -139,7 +139,8 @@ fn walk_named(
     })
 }
 
-/// A walk has one answer: a record with its items, or the first fault with the items before it.
+/// A walk has exactly one answer: a record with its items, or the first fault with the items before it.
 pub fn one_walk()
-    ensures { (table : List Item) (body : List ℕ) (from offset : ℕ) (spans spans' : List (ℕ × ℕ × ℕ)) (end end' : Result ℕ Malformed) → Walks table offset body from spans end → Walks table offset body from spans' end' → (spans ≡ spans') × (end ≡ end') }
+    ensures some { (table : List Item) (body : List ℕ) (from offset : ℕ) → (spans : List (ℕ × ℕ × ℕ)) × (end : Result ℕ Malformed) × Walks table offset body from spans end }
+    ensures one { (table : List Item) (body : List ℕ) (from offset : ℕ) (spans spans' : List (ℕ × ℕ × ℕ)) (end end' : Result ℕ Malformed) → Walks table offset body from spans end → Walks table offset body from spans' end' → (spans ≡ spans') × (end ≡ end') }
 {}
