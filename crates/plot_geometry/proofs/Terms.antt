@@ -1,5 +1,5 @@
 -- Terms of the code that the size lemmas do not name.
-use Rattle.std.proofs.Common.{◌≡◌, ◌∙◌, ℕ, ◌≤◌, ◌^◌, lit<, T, ltb, zero, suc, ℤ, pos, negsuc, arith, ap, sym, subst, ◌<◌}
+use Rattle.std.proofs.Common.{◌≡◌, ◌∙◌, ℕ, ◌≤◌, ◌^◌, lit<, T, ltb, ℤ, pos, negsuc, arith, ap, sym, subst}
 use Rattle.std.specs.Prelude.{unsigned_abs, FitsSigned}
 use Rattle.std.proofs.lemmas.Int.{ints, clamps, to_z-of_z}
 use Rattle.std.specs.Int.{w16, w64, w128, int_max, cast_signed, cast_unsigned}

@@ -1,5 +1,5 @@
 -- The cosine and the sine of each bit's angle are a point of the unit circle, but for rounding.
-use Rattle.std.proofs.Common.{◌≡◌, ap, subst, ℕ, ◌<◌, ◌≤◌, ◌+◌, ◌^◌, refl, arith, get_or, ℤ, Bool, true, leb, map, length}
+use Rattle.std.proofs.Common.{◌≡◌, subst, ℕ, ◌<◌, ◌≤◌, ◌+◌, ◌^◌, refl, arith, ℤ, Bool, true, leb, map}
 use Rattle.std.specs.Prelude.{unsigned_abs}
 use Rattle.std.specs.List.{list_all, range_with_len}
 use Rattle.std.proofs.lemmas.Bool.{leb-true}

@@ -1,5 +1,5 @@
 -- Each plot that the settings and the ranges allow lies within the plane's bound, and so do its variances.
-use Rattle.std.proofs.Common.{◌≡◌, ℕ, ◌+◌, ◌-◌, ◌*◌, ◌^◌, ◌≤◌, arith, ℤ, pos, ◌+ℤ◌, ◌*ℤ◌}
+use Rattle.std.proofs.Common.{ℕ, ◌-◌, ◌*◌, ◌^◌, ◌≤◌, arith, ℤ, pos, ◌+ℤ◌, ◌*ℤ◌}
 use Rattle.std.specs.Prelude.{unsigned_abs, min}
 use Rattle.std.proofs.lemmas.Int.{ints}
 use Rattle.trk_base.specs.declared.plots.RawPlot.{RawPlot}

@@ -1,8 +1,7 @@
 -- A turn by the angle of a bit keeps the length, but for what rounding adds.
-use Rattle.std.proofs.Common.{◌≡◌, ap, sym, inl, inr, ℕ, zero, suc, ◌+◌, ◌-◌, ◌*◌, ◌^◌, ◌<◌, ◌≤◌, arith, subst, lit≤, ℤ, pos, negsuc, neg_ℤ, ◌+ℤ◌, ◌-ℤ◌, ◌*ℤ◌, cond, eqb, true, false, refl}
+use Rattle.std.proofs.Common.{ap, sym, inl, inr, ℕ, ◌+◌, ◌-◌, ◌*◌, ◌^◌, ◌<◌, ◌≤◌, arith, subst, lit≤, ℤ, pos, negsuc, neg_ℤ, ◌+ℤ◌, ◌-ℤ◌, ◌*ℤ◌, cond}
 use Rattle.std.specs.Prelude.{unsigned_abs}
-use Rattle.std.proofs.lemmas.Bool.{cases_eq, ne_eqb, eq-eqb}
-use Rattle.trk_base.specs.Numbers.{round}
+use Rattle.std.proofs.lemmas.Bool.{cases_eq, ne_eqb}
 use Rattle.plot_geometry.specs.Turns.{right_angle_halved, half_angle, turned, norm}
 use Rattle.trk_base.proofs.Roots.{square_le}
 use Rattle.plot_geometry.specs.HalfAngles.{unit_angle}

@@ -6,5 +6,6 @@ pub mod Lengths
 pub mod Norms
 pub mod Plane
 pub mod PlanePlots
+pub mod PlotOrder
 pub mod TurnLaws
 pub mod Turns

@@ -2,7 +2,6 @@
 use Rattle.std.specs.Prelude.{ℕ, ◌+◌, ◌-◌, ◌*◌, ◌^◌, max, Option, Some, None, ℤ, pos, negsuc, ◌+ℤ◌, ◌-ℤ◌, ◌*ℤ◌, unsigned_abs}
 use Rattle.std.specs.Int.{int_rem_euclid}
 use Rattle.trk_base.specs.Numbers.{round, clamp, isqrt}
-use Rattle.plot_geometry.specs.Turns.{sine_cosine, scaled}
 
 -- max(0, z)
 abbrev pub not_below_zero : ℤ → ℕ

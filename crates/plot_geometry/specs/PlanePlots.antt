@@ -1,12 +1,9 @@
 -- A raw plot, put into the plane by the settings of its radar.
-use Rattle.std.specs.Prelude.{ℕ, ◌-◌, ◌*◌, ◌^◌, min, ℤ, pos, ◌+ℤ◌, ◌*ℤ◌}
 use Rattle.trk_base.specs.declared.keys.Key.{Key}
 use Rattle.trk_base.specs.declared.plots.RawPlot.{RawPlot}
 use Rattle.plot_geometry.specs.declared.radars.RadarSettings.{RadarSettings}
 use Rattle.plot_geometry.specs.declared.plots.PlanePlot.{PlanePlot}
-use Rattle.plot_geometry.specs.Turns.{sine_cosine, rotated}
-use Rattle.plot_geometry.specs.Plane.{slant_range, azimuth, ground_range, cross_range_sigma, squared_sine, axis_variance}
-use Rattle.plot_geometry.specs.InPlane.{azimuth_of, range_of, share_of, x_of, y_of, rx_of, ry_of}
+use Rattle.plot_geometry.specs.InPlane.{x_of, y_of, rx_of, ry_of}
 use Rattle.plot_geometry.specs.InRange.{x_in_plane, y_in_plane, rx_in_range, ry_in_range}
 
 -- the plot in the plane; its place and its variances keep their ranges, whatever the settings and the plot

@@ -4,6 +4,8 @@
 mod plane;
 mod plots;
 mod radars;
+#[cfg(test)]
+mod tests;
 mod turns;
 
 pub use plane::to_plane;

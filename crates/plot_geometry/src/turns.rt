@@ -24,7 +24,7 @@ const HALF_ANGLES: [(i64, i64); 16] = [
     (-1_099_511_627_776, 0),
 ];
 
-fn half_angle(k: usize) -> (i64, i64)
+pub(crate) fn half_angle(k: usize) -> (i64, i64)
     requires { k < 16 }
     ensures value { result ≡ half_angle k }
     ensures cosine { unsigned_abs result.0 ≤ 2 ^ 40 }

@@ -1,4 +1,4 @@
-use Rattle.std.proofs.Common.{ap, lit≤, ◌^◌}
+use Rattle.std.proofs.Common.{ap, ◌^◌}
 use Rattle.std.specs.Prelude.{unsigned_abs}
 use Rattle.trk_base.proofs.Sizes.{is_pos, times, rounded}
 use Rattle.plot_geometry.specs.Plane.{cross_range_sigma}

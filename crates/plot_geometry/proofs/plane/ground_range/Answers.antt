@@ -1,6 +1,6 @@
-use Rattle.std.proofs.Common.{◌≡◌, ◌∙◌, ap, sym, rules, ◌*◌, ◌-◌, ◌^◌}
+use Rattle.std.proofs.Common.{◌∙◌, ap, sym, rules, ◌*◌, ◌-◌, ◌^◌}
 use Rattle.std.specs.Prelude.{FitsSigned, unsigned_abs}
-use Rattle.std.specs.Int.{w16, w128, cast_signed, cast_unsigned}
+use Rattle.std.specs.Int.{w16}
 use Rattle.std.proofs.lemmas.Int.{to_z-of_z}
 use Rattle.trk_base.specs.Numbers.{isqrt}
 use Rattle.trk_base.proofs.Sizes.{var}

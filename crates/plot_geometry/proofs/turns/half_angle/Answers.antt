@@ -1,4 +1,4 @@
-use Rattle.std.proofs.Common.{◌≡◌, sym, subst, ◌≤◌, ◌^◌, ℤ}
+use Rattle.std.proofs.Common.{sym, subst, ◌≤◌, ◌^◌, ℤ}
 use Rattle.std.specs.Prelude.{unsigned_abs}
 use Rattle.plot_geometry.specs.HalfAngles.{cosine_le, sine_le}
 use Rattle.plot_geometry.proofs.Table.{entry_is}

@@ -1,4 +1,4 @@
-use Rattle.std.proofs.Common.{◌≡◌, ◌∙◌, arith, lit<, ℕ, ◌*◌, ◌≤◌, ◌^◌, ℤ, pos, ◌*ℤ◌, subst, sym}
+use Rattle.std.proofs.Common.{arith, lit<, ◌*◌, ◌≤◌, ◌^◌, subst, sym}
 use Rattle.std.specs.Prelude.{unsigned_abs}
 use Rattle.trk_base.proofs.Sizes.{var, times, rounded, is_cast64}
 use Rattle.plot_geometry.specs.Bounds.{scaled_twice}

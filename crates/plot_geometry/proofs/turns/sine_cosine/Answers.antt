@@ -1,5 +1,5 @@
-use Rattle.std.proofs.Common.{◌≡◌, ◌∙◌, ap, sym, subst, arith, ◌+◌, ◌*◌, ◌^◌, ◌-◌, ◌≤◌, ℤ, pos}
-use Rattle.std.specs.Int.{w128, cast_signed, cast_unsigned}
+use Rattle.std.proofs.Common.{◌≡◌, ◌∙◌, ap, sym, subst, arith, ◌+◌, ◌*◌, ◌^◌, ◌-◌, ◌≤◌, ℤ}
+use Rattle.std.specs.Int.{w128, cast_signed}
 use Rattle.plot_geometry.specs.Turns.{turns, norm}
 use Rattle.plot_geometry.specs.TurnLaws.{turns_on, turns_past, turns_done, turns_begin}
 use Rattle.plot_geometry.proofs.Terms.{norm_through}

@@ -6,5 +6,5 @@ use Rattle.plot_geometry.proofs.turns.sine_cosine.Given as goal
 abbrev pub invariant-loop-k : goal.invariant-loop-k
 invariant-loop-k l = record {
   turned : turns l.k l.angle (l.s, l.c) ≡ sine_cosine l.angle;
-  norm : norm l.s l.c ≤ 2 ^ 80 + (16 - l.k) * 2 ^ 44
+  norm : norm l.s l.c ≤ 2 ^ 80 + (16 - l.k) * 2 ^ 44;
 }
