@@ -1,0 +1,41 @@
+//! The lock and its turns.
+ghost use Rattle.std.specs.Prelude.{◌≡◌};
+
+use crate::board::{Board, Place};
+use crate::logged::Logged;
+use std::marker::Model;
+
+mod calls;
+
+/// A lock round a value that stands for a list of events, the history.
+#[derive(Drop)]
+pub struct TurnLock<V: Logged> {
+    board: Board<V>,
+}
+
+impl<V: Logged> Model for TurnLock<V> {
+    ghost use Rattle.std.specs.Prelude.{◌<◌};
+    ghost use Rattle.turn_lock.specs.Turns.{LockFacts};
+
+    ghost Value = { LockFacts V.Base };
+
+    ghost view = { λ l. record { table = l.board.table.shared.table_id; base = V.base l.board.table.shared.key.start.value; seats = l.board.table.shared.key.seats } };
+
+    ghost invariant = { λ l. 0 < l.board.table.shared.key.seats };
+}
+
+/// A seat at the lock. Who has it may take turns.
+#[derive(Drop)]
+pub struct Turn<V: Logged> {
+    seat: Place<V>,
+}
+
+impl<V: Logged> Model for Turn<V> {
+    ghost use Rattle.turn_lock.specs.Turns.{Token, token_of, Rests};
+
+    ghost Value = { Token V.Event V.Base };
+
+    ghost view = { λ t. token_of t.seat.table_id t.seat.me.0 };
+
+    ghost invariant = { λ t. Rests t.seat.me };
+}
