@@ -17,7 +17,7 @@ use Rattle.turn_lock.specs.declared.rule.Stage.TheVariants.{Idle, Waiting, Holdi
 use Rattle.turn_lock.specs.Lists.{is_member, count_of, Begins}
 use Rattle.turn_lock.specs.Rule.{is_out, ticket_of, unraised, Course, HasTicket, Stands, Fits, SeatWith, Home, Away, Kept}
 use Rattle.turn_lock.specs.Steps.{with_stage, new_place, Adds, stage_after, view_after, drew, looked, committed, raised, passed, refreshed}
-use Rattle.turn_lock.proofs.Lists.{put_at, put_elim, set_there, all_set, seat_set, begins_append, count_by-append, is_member-append, is_member-left, is_member-right, is_member_one, is_member_first, count_of-append, is_member_counted, count_of_one, count_of_other}
+use Rattle.turn_lock.proofs.Lists.{put_at, put_elim, set_there, all_set, seat_set, begins_append, each_more, count_by-append, is_member-append, is_member-left, is_member-right, is_member_one, is_member_first, count_of-append, is_member_counted, count_of_one, count_of_other}
 
 some_same : {A : Type 0} {a b : A} → Path (Option A) (Some a) (Some b) → a ≡ b
 some_same e = cc
@@ -117,7 +117,7 @@ module _ {E B : Type 0} (is_publish : E → Bool) (b : B) (seats : ℕ) (c : Cou
     made_once = f.made_once;
     told = let low : v.told ≤ c.published = f.told in omega arith;
     raised = let low : count_by is_publish v.seen ≤ c.published + unraised v.stage = f.raised in omega arith;
-    joined = λ k x e. let q = f.joined k x e in let low : x.1 ≤ c.published = q.1 in (subst (Begins x.0) (sym g.history) (begins_append x.0 c.history g.added q.0), omega arith);
+    joined = each_more (λ (x : List E × ℕ) q. let low : x.1 ≤ c.published = q.1 in (subst (Begins x.0) (sym g.history) (begins_append x.0 c.history g.added q.0), omega arith)) v.joined f.joined;
   }
 
   -- the view at another stage
@@ -307,7 +307,7 @@ module _ {S E B : Type 0} (events : S → List E) (is_publish : E → Bool) (bas
               made_once = λ p. once_more p me.0.mine (length found) (length left) (f.made_once p) (λ h. let l : p < length c.history = (f.made p h).0 in omega arith);
               told = f.told;
               raised = omega arith;
-              joined = λ q x e. let g = f.joined q x e in (subst (Begins x.0) (sym was) (begins_append x.0 c.history add.fresh g.0), g.1);
+              joined = each_more (λ (x : List E × ℕ) q. (subst (Begins x.0) (sym was) (begins_append x.0 c.history add.fresh q.0), q.1)) me.0.joined f.joined;
             }
             (λ j u other e. let g = r.each_seat j u e in goes_on is_publish b seats c j u d g record {
               added = add.fresh;
@@ -374,7 +374,7 @@ module _ {S E B : Type 0} (events : S → List E) (is_publish : E → Bool) (bas
               made_once = f.made_once;
               told = let low : me.0.told ≤ c.published = f.told in omega arith;
               raised = omega arith;
-              joined = λ q x e. let g = f.joined q x e in let low : x.1 ≤ c.published = g.1 in (g.0, omega arith);
+              joined = each_more (λ (x : List E × ℕ) q. let low : x.1 ≤ c.published = q.1 in (q.0, omega arith)) me.0.joined f.joined;
             }
             (λ j u other e. let g = r.each_seat j u e in restands is_publish b seats c j u d g refl (omega arith) (λ _. refl) (λ _. refl)
             (stays c j u.seen d (λ q lo has. (has, lo)) u.stage (λ _. (refl, refl)) g.stands));

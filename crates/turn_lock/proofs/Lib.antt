@@ -2,3 +2,5 @@ pub mod Lists
 pub mod Keeps
 pub mod Turning
 pub mod Seen
+pub mod Opening
+pub mod Splitting

@@ -1,6 +1,7 @@
 -- Lists of views after one of them changed, functions changed at one number, and lists of numbers.
 use Rattle.std.proofs.Common.{◌<◌, ◌≤◌, ◌≡◌, ◌≢◌, ◌⊎◌, ℕ, zero, suc, ◌+◌, ◌==◌, Bool, true, false, true≢false, List, [], ◌∷◌, ◌++◌, set, sym, refl, ap, ◌∙◌, subst, ⊎_elim, inl, inr, arith, append_assoc, eq-eqb, ne_eqb}
 use Rattle.std.specs.Prelude.{if◌then◌else◌, count_by}
+use Rattle.std.specs.List.{AllByRecursion}
 use Rattle.std.proofs.lemmas.List.Sums.{sum_by-append}
 use mathlib.Core.Logic.{dite}
 use mathlib.Core.Option.{some, some-injective, some-ne-none}
@@ -44,6 +45,22 @@ module _ {A : Type 0} where
 
   pub begins_append : (xs ys zs : List A) → Begins xs ys → Begins xs (ys ++ zs)
   begins_append xs ys zs b = (b.0 ++ zs, ap (λ l. l ++ zs) b.1 ∙ append_assoc xs b.0 zs)
+
+  pub each_more : {P Q : A → Type 0} → ((x : A) → P x → Q x) → (xs : List A) → AllByRecursion P xs → AllByRecursion Q xs
+  each_more f [] h = tt
+  each_more f (x ∷ xs) h = (f x h.0, each_more f xs h.1)
+
+  pub each_append : (P : A → Type 0) (xs ys : List A) → AllByRecursion P xs → AllByRecursion P ys → AllByRecursion P (xs ++ ys)
+  each_append P [] ys h k = k
+  each_append P (x ∷ xs) ys h k = (h.0, each_append P xs ys h.1 k)
+
+  pub each_left : (P : A → Type 0) (xs ys : List A) → AllByRecursion P (xs ++ ys) → AllByRecursion P xs
+  each_left P [] ys h = tt
+  each_left P (x ∷ xs) ys h = (h.0, each_left P xs ys h.1)
+
+  pub each_right : (P : A → Type 0) (xs ys : List A) → AllByRecursion P (xs ++ ys) → AllByRecursion P ys
+  each_right P [] ys h = h
+  each_right P (x ∷ xs) ys h = each_right P xs ys h.1
 
   pub count_by-append : (f : A → Bool) (xs ys : List A) → count_by f (xs ++ ys) ≡ count_by f xs + count_by f ys
   count_by-append f xs ys = sum_by-append (λ x. if f x then 1 else 0) xs ys
@@ -110,3 +127,9 @@ count_of_one n x = go (n == x)
 
 pub count_of_other : (n x : ℕ) → n ≢ x → count_of n (x ∷ []) ≡ 0
 count_of_other n x ne = ap (λ b. (if b then 1 else 0) + 0) (ne_eqb n x ne)
+
+pub count_of_head : (n x : ℕ) (xs : List ℕ) → n ≡ x → count_of n (x ∷ xs) ≡ 1 + count_of n xs
+count_of_head n x xs e = ap (λ b. (if b then 1 else 0) + count_of n xs) (eq-eqb n x e)
+
+pub count_of_tail : (n x : ℕ) (xs : List ℕ) → n ≢ x → count_of n (x ∷ xs) ≡ count_of n xs
+count_of_tail n x xs ne = let e : count_of n (x ∷ xs) ≡ 0 + count_of n xs = ap (λ b. (if b then 1 else 0) + count_of n xs) (ne_eqb n x ne) in omega arith

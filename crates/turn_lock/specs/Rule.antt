@@ -1,6 +1,7 @@
 -- The rule of the lock: what holds of the words, of the slot and of all seats between any two steps.
 -- docs/CONCURRENCY.md has the same list in plain words.
 use Rattle.std.specs.Prelude.{◌≡◌, ◌⊎◌, ℕ, ◌+◌, ◌<◌, ◌≤◌, Bool, true, false, List, [], ◌∷◌, length, count_by, Option, Some}
+use Rattle.std.specs.List.{AllByRecursion}
 use mathlib.Core.Option.{none, some}
 use mathlib.Core.Option as maybe
 use lib.ListN.{get_elem?}
@@ -77,7 +78,8 @@ pub record Fits {E B : Type 0} (is_publish : E → Bool) (b : B) (seats : ℕ) (
   pub made_once : (p : ℕ) → count_of p v.mine ≤ 1
   pub told : v.told ≤ c.published
   pub raised : count_by is_publish v.seen ≤ c.published + unraised v.stage
-  pub joined : (k : ℕ) (x : List E × ℕ) → get_elem? v.joined k ≡ some x → Begins x.0 c.history × (x.1 ≤ c.published)
+  -- what a joined seat had seen and was told
+  pub joined : AllByRecursion (λ x. Begins x.0 c.history × (x.1 ≤ c.published)) v.joined
 
 -- the seat has a view of which this holds
 abbrev pub SeatWith : {V : Type 0} → List V → ℕ → (V → Type 0) → Type 0
@@ -115,3 +117,17 @@ module _ {S E B : Type 0} (events : S → List E) (is_publish : E → Bool) (bas
 -- the first view, which has all numbers
 abbrev pub beginner : {E B : Type 0} → B → ℕ → View E B
 beginner b seats = record { seen = []; mine = []; told = 0; numbers = below seats; stage = Idle; joined = []; base = Some b }
+
+-- what a seat knows of a history, and of the last published number: they reach all that it has seen and was told, and
+-- all that the seats joined into it had seen and were told
+pub record Reaches {E B : Type 0} (v : View E B) (history : List E) (published : ℕ) : Type 0 where
+  pub seen : Begins v.seen history
+  pub told : v.told ≤ published
+  pub joined : AllByRecursion (λ x. Begins x.0 history × (x.1 ≤ published)) v.joined
+
+-- what the seat that has all numbers may rely on of the value that it closes
+pub record IsWhole {S E B : Type 0} (events : S → List E) (is_publish : E → Bool) (base : S → B) (b : B) (v : View E B) (y : S) : Type 0 where
+  pub rooted : base y ≡ b
+  pub reached : Reaches v (events y) (count_by is_publish (events y))
+  pub once : (p : ℕ) → p < length (events y) → count_of p v.mine ≡ 1
+  pub within : (p : ℕ) → length (events y) ≤ p → count_of p v.mine ≡ 0

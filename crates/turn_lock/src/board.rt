@@ -6,6 +6,7 @@ use crate::rule::{Key, Law, View};
 use atomic_table::{Seat, Table};
 use std::alloc::Global;
 
+mod seats;
 mod steps;
 mod turns;
 

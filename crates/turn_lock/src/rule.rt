@@ -49,9 +49,10 @@ pub struct View<E, B> {
 }
 
 /// What a table is told when it is made.
+#[derive(Drop)]
 pub struct Key<V> {
     pub start: Snapshot<V>,
-    pub seats: u64,
+    pub seats: u32,
 }
 
 pub struct Law;
