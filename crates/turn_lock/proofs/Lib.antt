@@ -4,3 +4,5 @@ pub mod Turning
 pub mod Seen
 pub mod Opening
 pub mod Splitting
+pub mod Joining
+pub mod Closing
