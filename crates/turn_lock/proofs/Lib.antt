@@ -6,3 +6,5 @@ pub mod Opening
 pub mod Splitting
 pub mod Joining
 pub mod Closing
+pub mod Dealing
+pub mod Gathering

@@ -1,10 +1,11 @@
 -- What a lock and a turn are seen as, and what the calls say of them.
-use Rattle.std.specs.Prelude.{◌≡◌, ℕ, ◌==◌, Bool, List, [], ◌∷◌, ◌++◌, length, count_by, Option, Some}
+use Rattle.std.specs.Prelude.{◌≡◌, ℕ, ◌≤◌, ◌==◌, Bool, true, All, List, [], ◌∷◌, ◌++◌, length, count_by, sum_by, Option, Some}
 use Rattle.atomic_table.specs.Seated.{TableId}
 use Rattle.atomic_table.specs.Table.{Me}
 use Rattle.turn_lock.specs.declared.rule.View.{View}
 use Rattle.turn_lock.specs.declared.rule.Stage.TheVariants.{Idle}
-use Rattle.turn_lock.specs.Lists.{Begins}
+use Rattle.turn_lock.specs.Lists.{Begins, is_member, count_of}
+use Rattle.turn_lock.specs.Rule.{Reaches}
 use Rattle.turn_lock.specs.Steps.{Adds, new_place}
 
 -- which lock it is, the base of its value, and how many seats it has
@@ -42,9 +43,16 @@ module _ {E B : Type 0} where
     pub table : turn.table ≡ lock.table
     pub base : turn.base ≡ Some lock.base
 
-  -- the turn of that number, before its first call
+  -- a turn of that number before its first call
+  abbrev pub new_token : TableId → Option B → ℕ → Token E B
+  new_token table base number = record { table = table; base = base; number = number; seen = []; mine = []; told = 0 }
+
   abbrev pub newcomer : LockFacts B → ℕ → Token E B
-  newcomer lock number = record { table = lock.table; base = Some lock.base; number = number; seen = []; mine = []; told = 0 }
+  newcomer lock number = new_token lock.table (Some lock.base) number
+
+  -- how often the place stands among the places of the turns
+  abbrev pub times_made : ℕ → List (Token E B) → ℕ
+  times_made p turns = sum_by (λ t. count_of p t.mine) turns
 
   -- the turn after a call that found one list and left the other
   abbrev pub turned : Token E B → List E → List E → Token E B
@@ -63,3 +71,9 @@ module _ {S E B : Type 0} (events : S → List E) (is_publish : E → Bool) (bas
   pub record MayLeave (turn : Token E B) (found left : S) : Type 0 where
     pub rooted : base left ≡ base found
     pub adds : Adds is_publish (turn.number == 0) (events found) (events left)
+
+-- The seat that took in the seats of these turns knows what each of them knew.
+pub record Gathers {E B : Type 0} (v : View E B) (turns : List (Token E B)) : Type 0 where
+  pub numbers : All (λ t. is_member t.number v.numbers ≡ true) turns
+  pub mine : (p : ℕ) → count_of p v.mine ≡ times_made p turns
+  pub reached : (history : List E) (published : ℕ) → Reaches v history published → All (λ t. Begins t.seen history × (t.told ≤ published)) turns

@@ -6,6 +6,10 @@ use crate::logged::Logged;
 use std::marker::Model;
 
 mod calls;
+mod seats;
+
+/// The most seats that a lock may have.
+pub const MAX_SEATS: u32 = 64;
 
 /// A lock round a value that stands for a list of events, the history.
 #[derive(Drop)]

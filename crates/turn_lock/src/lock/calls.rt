@@ -1,13 +1,36 @@
 //! The calls.
-ghost use Rattle.std.specs.Prelude.{◌≡◌, ◌≤◌, count_by};
+ghost use Rattle.std.specs.Prelude.{◌≡◌, ℕ, ◌<◌, ◌≤◌, [], length, count_by, slice_get, vec_len, All, Any, EachIndex, IfOk, Some};
 ghost use Rattle.std.specs.Fn.{FnOnceReturnsAtMut, FnOnceTakesAtMut};
-ghost use Rattle.turn_lock.specs.Turns.{IsTurnOf, Finds, MayLeave, turned};
+ghost use Rattle.turn_lock.specs.Lists.{Begins};
+ghost use Rattle.turn_lock.specs.Turns.{newcomer, IsTurnOf, Finds, MayLeave, turned, times_made};
 
-use super::{Turn, TurnLock};
+use super::seats::{deal, gather};
+use super::{MAX_SEATS, Turn, TurnLock};
+use crate::board::Board;
 use crate::logged::Logged;
+use std::alloc::Global;
 use std::sync::Wait;
+use trk_base::NoMemory;
 
 impl<V: Logged> TurnLock<V> {
+    /// A lock round the value, and a turn for each of its seats.
+    pub fn new(
+        alloc: Global,
+        value: V,
+        seats: u32,
+    ) -> Result<(TurnLock<V>, Vec<Turn<V>>), NoMemory>
+        requires seats { (1 ≤ seats) × (seats ≤ MAX_SEATS) }
+        requires empty { V.events value ≡ [] }
+        ensures base { IfOk result (λ r. r.0.base ≡ V.base value) }
+        ensures seats { IfOk result (λ r. (r.0.seats ≡ seats) × (vec_len r.1 ≡ seats)) }
+        ensures turns { IfOk result (λ r. EachIndex r.1.items (λ n. slice_get r.1.items n ≡ Some (newcomer r.0 n))) }
+    {
+        let mut turns = Vec::with_capacity(alloc, seats as usize)?;
+        let (board, seat) = Board::open(alloc, value, seats)?;
+        deal(&board, seat, seats, &mut turns);
+        Ok((TurnLock { board }, turns))
+    }
+
     /// Calls once on the value, at this turn.
     pub fn with_turn<R, F: FnOnce(&mut V) -> R, W: Wait>(
         &self,
@@ -31,5 +54,20 @@ impl<V: Logged> TurnLock<V> {
         ensures turn { turn.new ≡ record turn.old { told = result } }
     {
         self.board.fresh(&mut turn.seat)
+    }
+
+    /// Gives the value back, for the turns of all seats.
+    pub fn close(self, turns: Vec<Turn<V>>) -> V
+        requires own { All (λ t. IsTurnOf self t) turns.items }
+        requires all { (n : ℕ) → n < self.seats → Any (λ t. t.number ≡ n) turns.items }
+        ensures base { V.base result ≡ self.base }
+        ensures begins { All (λ t. Begins t.seen (V.events result)) turns.items }
+        ensures made_once { (p : ℕ) → p < length (V.events result) → times_made p turns.items ≡ 1 }
+        ensures made_within { (p : ℕ) → length (V.events result) ≤ p → times_made p turns.items ≡ 0 }
+        ensures told { All (λ t. t.told ≤ count_by V.is_publish (V.events result)) turns.items }
+    {
+        let TurnLock { board } = self;
+        let seat = gather(&board, turns);
+        board.close(seat)
     }
 }
