@@ -484,9 +484,14 @@ module _ {S E B : Type 0} (events : S → List E) (is_publish : E → Bool) (bas
       }
 
   pub refreshes : (slots id : ℕ) (me : M) → me.0.stage ≡ Idle → Allows Rule slots id me 3 (λ x. x) (refreshed is_publish (step slots 3 0 0 none) me)
-  refreshes slots id me idle s r _ at _ = let x : ℕ = get_or s.words 3 0 in let is : x ≡ r.course.published = ap (λ l. get_or l 3 0) r.words in let f = r.each_seat id me.0 at in
-      (record me.0 { told = x }, keeps, tt, told_now s r id me at, record {
-        told = let low : me.0.told ≤ r.course.published = f.told in omega arith;
-        seen = let low : count_by is_publish me.0.seen ≤ r.course.published + unraised me.0.stage = f.raised in let z : unraised me.0.stage ≡ 0 = ap unraised idle in omega arith;
-        view = refl;
-      })
+  refreshes slots id me idle s r _ at _ = let x : ℕ = get_or s.words 3 0 in let is : x ≡ r.course.published = ap (λ l. get_or l 3 0) r.words in let f = r.each_seat id me.0 at in (
+    record me.0 { told = x },
+    keeps,
+    tt,
+    told_now s r id me at,
+    record {
+      told = let low : me.0.told ≤ r.course.published = f.told in omega arith;
+      seen = let low : count_by is_publish me.0.seen ≤ r.course.published + unraised me.0.stage = f.raised in let z : unraised me.0.stage ≡ 0 = ap unraised idle in omega arith;
+      view = refl;
+    },
+  )

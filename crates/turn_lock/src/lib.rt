@@ -8,6 +8,8 @@ mod lock;
 mod logged;
 mod plays;
 mod rule;
+#[cfg(test)]
+mod tests;
 
 pub use lock::{Turn, TurnLock};
 pub use logged::Logged;

@@ -14,11 +14,7 @@ use trk_base::NoMemory;
 
 impl<V: Logged> TurnLock<V> {
     /// A lock round the value, and a turn for each of its seats.
-    pub fn new(
-        alloc: Global,
-        value: V,
-        seats: u32,
-    ) -> Result<(TurnLock<V>, Vec<Turn<V>>), NoMemory>
+    pub fn new(alloc: Global, value: V, seats: u32) -> Result<(TurnLock<V>, Vec<Turn<V>>), NoMemory>
         requires seats { (1 ≤ seats) × (seats ≤ MAX_SEATS) }
         requires empty { V.events value ≡ [] }
         ensures base { IfOk result (λ r. r.0.base ≡ V.base value) }

@@ -10,8 +10,7 @@ pub leave-requires-clause-held : goal.leave-requires-clause-held
 leave-requires-clause-held g c = let t = c.enter-ticket.ensures.taken in let x = c.slot_mut-value.result.now in let y = c.call-result.new.arg2 in
     let h = held g.V.Logged.events g.V.Logged.is_publish g.V.Logged.base c.args.seat.now.me c.enter-ticket.new.seat.me c.enter-ticket.result t.0 x t.1 t.2 c.slot_mut-value.ensures.value in
     let rooted : g.V.Logged.base y ≡ g.V.Logged.base x = c.requires.base x c.call-result.result y h.found (search rules) in
-    let adds : Adds g.V.Logged.is_publish (is_member 0 c.args.seat.now.me.0.numbers) (g.V.Logged.events x) (g.V.Logged.events y) = c.requires.adds x c.call-result.result y h.found (search rules) in
-    (
+    let adds : Adds g.V.Logged.is_publish (is_member 0 c.args.seat.now.me.0.numbers) (g.V.Logged.events x) (g.V.Logged.events y) = c.requires.adds x c.call-result.result y h.found (search rules) in (
       g.V.Logged.events x,
       y,
       ap (λ m. m.0.stage) h.is,
