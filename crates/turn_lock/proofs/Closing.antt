@@ -1,7 +1,6 @@
 -- The seat that has all numbers finds the value at home when the table is closed.
 use Rattle.std.proofs.Common.{◌≡◌, ℕ, ◌<◌, ◌≤◌, Bool, true, true≢false, List, [], ◌∷◌, length, sym, ap, ◌∙◌, subst, ⊎_elim, refl, arith}
 use Rattle.std.specs.Prelude.{count_by}
-use Rattle.std.specs.List.{AllByRecursion}
 use mathlib.Core.Logic.{dite}
 use mathlib.Core.Option.{some, some-injective}
 use native.Mathlib.Decide.{ℕ_discrete}
@@ -9,7 +8,7 @@ use lib.ListN.{get_elem?}
 use Rattle.atomic_table.specs.Table.{State, Final, Seen}
 use Rattle.turn_lock.specs.declared.rule.View.{View}
 use Rattle.turn_lock.specs.declared.rule.Stage.TheVariants.{Idle}
-use Rattle.turn_lock.specs.Lists.{is_member, count_of, Begins}
+use Rattle.turn_lock.specs.Lists.{is_member, count_of}
 use Rattle.turn_lock.specs.Rule.{is_out, Home, Away, Kept, Reaches, IsWhole}
 use Rattle.turn_lock.proofs.Lists.{is_member_first, is_member_counted, count_of_member}
 

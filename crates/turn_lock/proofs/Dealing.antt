@@ -1,5 +1,5 @@
 -- The numbers of a new lock are given to its seats one by one.
-use Rattle.std.proofs.Common.{◌≡◌, ℕ, zero, suc, ◌+◌, ◌-◌, ◌<◌, ◌≤◌, List, [], ◌∷◌, ◌++◌, length, map, refl, sym, ap, ◌∙◌, subst, arith, append_assoc}
+use Rattle.std.proofs.Common.{◌≡◌, ℕ, zero, suc, ◌-◌, ◌<◌, ◌≤◌, List, [], ◌∷◌, ◌++◌, length, map, refl, sym, ap, ◌∙◌, arith}
 use Rattle.std.proofs.lemmas.List.{length-reverse}
 use Rattle.std.specs.Prelude.{Option, Some, true, slice_get, EachIndex}
 use mathlib.Core.List.{reverse, reverse-cons}
@@ -10,9 +10,7 @@ use Rattle.atomic_table.specs.Table.{Me}
 use Rattle.turn_lock.specs.declared.rule.View.{View}
 use Rattle.turn_lock.specs.declared.rule.Stage.TheVariants.{Idle}
 use Rattle.turn_lock.specs.Lists.{is_member, below}
-use Rattle.turn_lock.specs.Rule.{beginner}
-use Rattle.turn_lock.specs.Steps.{giver, given, rest_of, first_of}
-use Rattle.turn_lock.specs.Turns.{Token, new_token, token_of, Rests}
+use Rattle.turn_lock.specs.Turns.{Token, new_token, token_of}
 use Rattle.turn_lock.proofs.Opening.{below_there}
 
 below_step : (k : ℕ) → 1 ≤ k → below k ≡ (k - 1) ∷ below (k - 1)
@@ -33,36 +31,10 @@ module _ {E B : Type 0} (table : TableId) (base : Option B) where
     pub me_is : me ≡ (keeper left, [])
     pub turns_are : turns ++ map token (below left) ≡ map token (below seats)
 
-  pub none_dealt : {S : Type 0} (seats : ℕ) (b : B) (turns : List (Token E B)) (me : Me S (View E B)) → 1 ≤ seats → turns ≡ [] → me ≡ (beginner b seats, []) → me.0.base ≡ base → IsDealt seats seats turns me
-  none_dealt {S = S} seats b turns me l none_yet is based = record {
-    some = l;
-    me_is = is ∙ ap (λ (z : Option B). (record { seen = []; mine = []; told = 0; numbers = below seats; stage = Idle; joined = []; base = z }, [])) (sym (ap (λ (m : Me S (View E B)). m.0.base) is) ∙ based);
-    turns_are = ap (λ l. l ++ map token (below seats)) none_yet;
-  }
-
   module _ {S : Type 0} (seats left : ℕ) (turns : List (Token E B)) (me : Me S (View E B)) (d : IsDealt seats left turns me) where
     -- what the split asks
     pub more : 1 < left → (n : ℕ) × (ns : List ℕ) × (me.0.numbers ≡ n ∷ ns) × (is_member 0 ns ≡ true)
     more l = (left - 1, below (left - 1), ap (λ (m : Me S (View E B)). m.0.numbers) d.me_is ∙ below_step left d.some, below_there (left - 1) 0 (omega arith))
-
-    -- what the new seat is seen as
-    pub given_is : (other : Me S (View E B)) → other ≡ (given me.0, []) → token_of table other.0 ≡ token (left - 1)
-    given_is other is = ap (λ (m : Me S (View E B)). token_of table m.0) is ∙ (ap (λ (m : Me S (View E B)). token_of table (given m.0)) d.me_is ∙ ap (λ l. token_of table (given record { seen = []; mine = []; told = 0; numbers = l; stage = Idle; joined = []; base = base })) (below_step left d.some))
-
-    pub given_rests : (other : Me S (View E B)) → other ≡ (given me.0, []) → Rests other
-    given_rests other is = let now : other ≡ (given record { seen = []; mine = []; told = 0; numbers = (left - 1) ∷ below (left - 1); stage = Idle; joined = []; base = base }, []) =
-        is ∙ (ap (λ (m : Me S (View E B)). (given m.0, [])) d.me_is ∙ ap (λ l. (given record { seen = []; mine = []; told = 0; numbers = l; stage = Idle; joined = []; base = base }, [])) (below_step left d.some)) in
-        subst (λ (m : Me S (View E B)). Rests m) (sym now) record { empty = refl; idle = refl; one = refl }
-
-    pub dealt_more : 1 < left → (after : Me S (View E B)) (t : Token E B) → after ≡ (giver me.0, me.1) → t ≡ token (left - 1) → IsDealt seats (left - 1) (turns ++ t ∷ []) after
-    dealt_more l after t is are = record {
-      some = omega arith;
-      me_is = is ∙ (ap (λ (m : Me S (View E B)). (giver m.0, m.1)) d.me_is ∙ ap (λ l. (record { seen = []; mine = []; told = 0; numbers = rest_of l; stage = Idle; joined = []; base = base }, [])) (below_step left d.some));
-      turns_are = append_assoc turns (t ∷ []) (map token (below (left - 1))) ∙ (ap (λ z. turns ++ (z ∷ map token (below (left - 1)))) are ∙ (ap (λ l. turns ++ map token l) (sym (below_step left d.some)) ∙ d.turns_are));
-    }
-
-    pub last_rests : left ≤ 1 → Rests me
-    last_rests l = let one : left ≡ 1 = let s = d.some in omega arith in subst (λ (m : Me S (View E B)). Rests m) (sym (d.me_is ∙ ap (λ z. (keeper z, [])) one)) record { empty = refl; idle = refl; one = refl }
 
     pub all_dealt : left ≤ 1 → (t : Token E B) → t ≡ token_of table me.0 → turns ++ t ∷ [] ≡ map token (below seats)
     all_dealt l t is = let one : left ≡ 1 = let s = d.some in omega arith in
@@ -92,6 +64,3 @@ module _ {A : Type 0} (f : ℕ → A) where
 
   pub in_order : (n : ℕ) (xs : List A) → xs ≡ reverse (map f (below n)) → EachIndex xs (λ k. slice_get xs k ≡ Some (f k))
   in_order n xs is k l = let size : length xs ≡ n = ap length is ∙ (length-reverse (map f (below n)) ∙ length_below n) in ap (λ z. slice_get z k) is ∙ upwards n k (omega arith)
-
-  pub how_many : (n : ℕ) (xs : List A) → xs ≡ reverse (map f (below n)) → length xs ≡ n
-  how_many n xs is = ap length is ∙ (length-reverse (map f (below n)) ∙ length_below n)

@@ -1,8 +1,7 @@
 -- The seats of a list of turns become one seat, which knows what each of them knew.
-use Rattle.std.proofs.Common.{◌≡◌, ℕ, ◌+◌, ◌<◌, ◌≤◌, Bool, true, List, [], ◌∷◌, ◌++◌, length, refl, sym, ap, ◌∙◌, subst, ⊎_elim, arith, append_assoc, append-nil, length-append, eq-eqb}
-use Rattle.std.specs.Prelude.{All, Option, Some, option_to_list}
-use Rattle.std.specs.List.{AllByRecursion, Any}
-use Rattle.std.proofs.lemmas.List.Elements.{All-nil, All-cons, All-weaker, All-get_or}
+use Rattle.std.proofs.Common.{◌≡◌, ℕ, ◌+◌, ◌<◌, ◌≤◌, true, List, [], ◌∷◌, ◌++◌, length, refl, sym, ap, ◌∙◌, subst, arith, append_assoc, length-append}
+use Rattle.std.specs.List.{Any}
+use Rattle.std.proofs.lemmas.List.Elements.{All-cons, All-weaker}
 use Rattle.std.proofs.lemmas.List.Sums.{sum_by-cons}
 use Rattle.atomic_table.specs.Seated.{TableId}
 use Rattle.atomic_table.specs.Table.{Me}
@@ -12,19 +11,12 @@ use Rattle.turn_lock.specs.Lists.{is_member, count_of, Begins}
 use Rattle.turn_lock.specs.Rule.{Reaches}
 use Rattle.turn_lock.specs.Steps.{both}
 use Rattle.turn_lock.specs.Turns.{Token, number_in, token_of, times_made, Rests, Gathers}
-use Rattle.turn_lock.proofs.Lists.{each_left, each_right, is_member-left, is_member-right, is_member_first, count_of-append}
+use Rattle.turn_lock.proofs.Lists.{each_left, is_member-left, is_member-right, is_member_first, count_of-append}
 
 own_number : (ns : List ℕ) → ns ≡ number_in ns ∷ [] → is_member (number_in ns) ns ≡ true
 own_number ns one = ap (is_member (number_in ns)) one ∙ is_member_first (number_in ns) (number_in ns) [] refl
 
 module _ {E B : Type 0} where
-  gathers_one : (table : TableId) (v : View E B) → v.numbers ≡ number_in v.numbers ∷ [] → Gathers v (token_of table v ∷ [])
-  gathers_one table v one = let t : Token E B = token_of table v in record {
-    numbers = All-cons (λ (t : Token E B). is_member t.number v.numbers ≡ true) t [] (own_number v.numbers one) (All-nil (λ (t : Token E B). is_member t.number v.numbers ≡ true));
-    mine = λ p. omega arith;
-    reached = λ l n r. All-cons (λ (t : Token E B). Begins t.seen l × (t.told ≤ n)) t [] (r.seen, r.told) (All-nil (λ (t : Token E B). Begins t.seen l × (t.told ≤ n)));
-  }
-
   -- what reaches two seats as one reaches each
   reaches_first : (v w : View E B) (l : List E) (n : ℕ) → Reaches (both v w) l n → Reaches v l n
   reaches_first v w l n r = let P : List E × ℕ → Type 0 = λ x. Begins x.0 l × (x.1 ≤ n) in record { seen = r.joined.0.0; told = r.joined.0.1; joined = each_left P v.joined w.joined r.joined.1.1 }
@@ -46,16 +38,6 @@ module _ {E B : Type 0} where
     pub parts : left ++ done ≡ all
     pub gathers : Gathers me.0 done
 
-  pub first_gathered : {S : Type 0} (table : TableId) (left all : List (Token E B)) (t : Token E B) (me : Me S (View E B)) → all ≡ left ++ t ∷ [] → token_of table me.0 ≡ t → Rests me → IsGathering left all me
-  first_gathered table left all t me parts is r = record {
-    empty = r.empty;
-    idle = r.idle;
-    some = subst (λ l. 0 < length l) (sym r.one) (omega arith);
-    done = t ∷ [];
-    parts = sym parts;
-    gathers = subst (λ (t : Token E B). Gathers me.0 (t ∷ [])) is (gathers_one table me.0 r.one);
-  }
-
   pub gathered_more : {S : Type 0} (table : TableId) (before left all : List (Token E B)) (t : Token E B) (me other after : Me S (View E B)) → IsGathering before all me → before ≡ left ++ t ∷ [] → token_of table other.0 ≡ t → Rests other
       → after ≡ (both me.0 other.0, me.1) → IsGathering left all after
   gathered_more {S} table before left all t me other after d parts is r now = subst (λ (m : Me S (View E B)). IsGathering left all m) (sym now) record {
@@ -66,9 +48,6 @@ module _ {E B : Type 0} where
     parts = sym (append_assoc left (t ∷ []) d.done) ∙ (ap (λ l. l ++ d.done) (sym parts) ∙ d.parts);
     gathers = subst (λ (t : Token E B). Gathers (both me.0 other.0) (t ∷ d.done)) is (gathers_more table me.0 other.0 d.done d.gathers r.one);
   }
-
-  pub all_gathered : {S : Type 0} (left all : List (Token E B)) (me : Me S (View E B)) → IsGathering left all me → left ≡ [] → Gathers me.0 all
-  all_gathered left all me d none_left = subst (Gathers me.0) (ap (λ l. l ++ d.done) (sym none_left) ∙ d.parts) d.gathers
 
   -- the seat has the number of each turn
   pub has_number_of : (v : View E B) (ts : List (Token E B)) (n : ℕ) → Gathers v ts → Any (λ t. t.number ≡ n) ts → is_member n v.numbers ≡ true

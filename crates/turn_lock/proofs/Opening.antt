@@ -1,14 +1,13 @@
 -- A new table meets the rule.
-use Rattle.std.proofs.Common.{◌≡◌, ℕ, zero, suc, ◌+◌, ◌<◌, ◌≤◌, Bool, true, false, true≢false, List, [], ◌∷◌, length, refl, sym, ap, ◌∙◌, subst, inl, arith}
-use Rattle.std.specs.Prelude.{if◌then◌else◌, count_by, Some}
+use Rattle.std.proofs.Common.{◌≡◌, ℕ, zero, suc, ◌+◌, ◌<◌, ◌≤◌, Bool, true, false, true≢false, List, [], ◌∷◌, refl, sym, ◌∙◌, subst, inl, arith}
 use mathlib.Core.Logic.{dite}
 use mathlib.Core.Option.{some, some-injective, some-ne-none}
 use native.Mathlib.Decide.{ℕ_discrete}
 use lib.ListN.{get_elem?}
-use Rattle.atomic_table.specs.Table.{State, opening}
+use Rattle.atomic_table.specs.Table.{opening}
 use Rattle.turn_lock.specs.declared.rule.View.{View}
 use Rattle.turn_lock.specs.Lists.{is_member, count_of, below}
-use Rattle.turn_lock.specs.Rule.{is_out, Course, Fits, Home, Kept, beginner}
+use Rattle.turn_lock.specs.Rule.{is_out, Course, Fits, Kept, beginner}
 use Rattle.turn_lock.proofs.Lists.{is_member_first, is_member_other, is_member_counted, count_of_head, count_of_tail}
 
 -- the numbers below n are those, each once

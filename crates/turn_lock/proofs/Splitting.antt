@@ -1,6 +1,6 @@
 -- A seat gives a number away, to a new seat.
-use Rattle.std.proofs.Common.{◌≡◌, ◌≢◌, ◌⊎◌, ℕ, zero, suc, ◌+◌, ◌<◌, ◌≤◌, Bool, true, false, true≢false, List, [], ◌∷◌, ◌++◌, length, set, sym, refl, ap, ◌∙◌, subst, ⊎_elim, inl, inr, arith, length-set}
-use Rattle.std.specs.Prelude.{if◌then◌else◌, count_by}
+use Rattle.std.proofs.Common.{◌≡◌, ◌≢◌, ◌⊎◌, ℕ, zero, suc, ◌+◌, ◌<◌, ◌≤◌, Bool, true, false, true≢false, List, [], ◌∷◌, ◌++◌, length, set, sym, refl, ap, ◌∙◌, subst, ⊎_elim, inl, inr, arith}
+use Rattle.std.specs.Prelude.{count_by}
 use mathlib.Core.Logic.{dite}
 use mathlib.Core.Option.{some, some-injective, some-ne-none}
 use native.Mathlib.Decide.{ℕ_discrete}
@@ -13,7 +13,6 @@ use Rattle.turn_lock.specs.Lists.{is_member, count_of}
 use Rattle.turn_lock.specs.Rule.{is_out, ticket_of, unraised, Course, Fits, SeatWith, Home, Away, Kept}
 use Rattle.turn_lock.specs.Steps.{giver, given, rest_of, first_of}
 use Rattle.turn_lock.proofs.Lists.{put_at, put_elim, all_set, seat_set, is_member_one, is_member_first, is_member_other, count_of_member, count_of_one, count_of_head}
-use Rattle.turn_lock.proofs.Keeps.{goes_on}
 
 -- an element of a list with one more is one of the list, or the last
 at_end : {A : Type 0} (xs : List A) (a b : A) (j : ℕ) → get_elem? (xs ++ a ∷ []) j ≡ some b → (get_elem? xs j ≡ some b) ⊎ ((j ≡ length xs) × (a ≡ b))

@@ -11,7 +11,10 @@ mod seats;
 /// The most seats that a lock may have.
 pub const MAX_SEATS: u32 = 64;
 
-/// A lock round a value that stands for a list of events, the history.
+/// A ticket lock round a value that stands for a list of events, the history.
+///
+/// After the ticket lock of Mellor-Crummey and Scott, "Algorithms for scalable synchronization on shared-memory
+/// multiprocessors" (1991). Threads share it by reference. Where it is dropped, the value is dropped with it.
 #[derive(Drop)]
 pub struct TurnLock<V: Logged> {
     board: Board<V>,
@@ -28,7 +31,10 @@ impl<V: Logged> Model for TurnLock<V> {
     ghost invariant = { λ l. 0 < l.board.table.shared.key.seats };
 }
 
-/// A seat at the lock. Who has it may take turns.
+/// A seat at the lock. Who has it may take turns, on any thread.
+///
+/// It has no bytes. Contracts see what it knows of the history: a `Token`. A lock that lost a turn can be dropped, and
+/// not closed.
 #[derive(Drop)]
 pub struct Turn<V: Logged> {
     seat: Place<V>,

@@ -1,5 +1,5 @@
 //! The lock round a diary, whose entries are its events.
-ghost use Rattle.std.specs.Prelude.{◌≡◌, ◌<◌, [], count_by, IfSome, vec_len};
+ghost use Rattle.std.specs.Prelude.{◌≡◌, ◌+◌, [], ◌∷◌, ◌++◌, length, count_by, IfSome};
 ghost use Rattle.turn_lock.specs.Steps.{Adds};
 ghost use Rattle.turn_lock.specs.Turns.{newcomer, IsTurnOf};
 
@@ -39,6 +39,7 @@ impl Diary {
     fn add(&mut self, entry: Entry) -> Option<u64>
         ensures name { self.new.name ≡ self.old.name }
         ensures adds { Adds (λ e. e.publishes) entry.publishes self.old.entries.items self.new.entries.items }
+        ensures place { IfSome result (λ at. (at ≡ length self.old.entries.items) × (length self.new.entries.items ≡ at + 1)) }
     {
         let at = self.count();
         if self.entries.push(entry).is_err() {
@@ -109,6 +110,7 @@ fn note<W: Wait>(
     requires own { IsTurnOf lock.now turn.old }
     ensures own { IsTurnOf lock.now turn.new }
     ensures number { turn.new.number ≡ turn.old.number }
+    ensures place { IfSome result (λ at. turn.new.mine ≡ turn.old.mine ++ at ∷ []) }
 {
     lock.with_turn(
         rt,
@@ -168,7 +170,7 @@ fn hundred<W: Wait>(
     (turn, Some(places))
 }
 
-// Publishes so many entries, the first with the number `from`.
+// Publishes so many entries, numbered from 0 on.
 fn publish_all<W: Wait>(
     rt: &W,
     lock: &TurnLock<Diary>,
@@ -223,11 +225,11 @@ fn add_beside<R: Threads + Wait + Sync>(
         rt,
         move || -> Added
             requires { IsTurnOf lock.now head }
-            ensures { IsTurnOf lock.now result.0 × (result.0.number ≡ head.number) }
+            ensures { IsTurnOf lock.entry.now result.0 × (result.0.number ≡ head.number) }
         { hundred(rt, alloc, lock, head, 0) },
         move || -> Added
             requires { IsTurnOf lock.now other }
-            ensures { IsTurnOf lock.now result.0 × (result.0.number ≡ other.number) }
+            ensures { IsTurnOf lock.entry.now result.0 × (result.0.number ≡ other.number) }
         { hundred(rt, alloc, lock, other, 1) },
     )
 }
@@ -247,11 +249,11 @@ fn watch_beside<R: Threads + Wait + Sync>(
         rt,
         move || -> (Turn<Diary>, bool)
             requires { IsTurnOf lock.now head × (head.number ≡ 0) }
-            ensures { IsTurnOf lock.now result.0 × (result.0.number ≡ 0) }
+            ensures { IsTurnOf lock.entry.now result.0 × (result.0.number ≡ 0) }
         { publish_all(rt, lock, head, 8) },
         move || -> (Turn<Diary>, bool)
             requires { IsTurnOf lock.now other }
-            ensures { IsTurnOf lock.now result.0 × (result.0.number ≡ other.number) }
+            ensures { IsTurnOf lock.entry.now result.0 × (result.0.number ≡ other.number) }
         { watch(lock, other) },
     )
 }

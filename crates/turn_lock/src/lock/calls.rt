@@ -13,7 +13,9 @@ use std::sync::Wait;
 use trk_base::NoMemory;
 
 impl<V: Logged> TurnLock<V> {
-    /// A lock round the value, and a turn for each of its seats.
+    /// Makes a lock round the value, and a turn for each of its seats, numbered from 0 in their order.
+    ///
+    /// The turn of number 0 is the head. The value stands for no event yet.
     pub fn new(alloc: Global, value: V, seats: u32) -> Result<(TurnLock<V>, Vec<Turn<V>>), NoMemory>
         requires seats { (1 ≤ seats) × (seats ≤ MAX_SEATS) }
         requires empty { V.events value ≡ [] }
@@ -27,7 +29,13 @@ impl<V: Logged> TurnLock<V> {
         Ok((TurnLock { board }, turns))
     }
 
-    /// Calls once on the value, at this turn.
+    /// Takes a turn: draws a ticket, waits until it is served, and calls once on the value.
+    ///
+    /// The value that is found stands for the history at this turn, which begins with all that the turn had seen. The
+    /// call adds one event at most, and a publishing event at the head's turns alone. Then the turn has seen that
+    /// history with the event, whose place is one of its own. It answers what the call answers.
+    ///
+    /// It takes no memory but what the call takes, and may wait for ever. A turn inside a turn never comes.
     pub fn with_turn<R, F: FnOnce(&mut V) -> R, W: Wait>(
         &self,
         rt: &W,
@@ -42,7 +50,9 @@ impl<V: Logged> TurnLock<V> {
         self.board.take_turn(rt, &mut turn.seat, call)
     }
 
-    /// A published number, not below any that this turn has seen.
+    /// The last published number, by one load. It waits for nobody.
+    ///
+    /// It is below none that this turn was told before, nor below that of the last publishing event that it has seen.
     pub fn fresh(&self, turn: &mut Turn<V>) -> u64
         requires own { IsTurnOf self.now turn.old }
         ensures told { turn.old.told ≤ result }
@@ -52,7 +62,10 @@ impl<V: Logged> TurnLock<V> {
         self.board.fresh(&mut turn.seat)
     }
 
-    /// Gives the value back, for the turns of all seats.
+    /// Gives the value back, for the turns of all seats in any order.
+    ///
+    /// Its list begins with all that each turn has seen, and each event of it stands at a place of exactly one turn. No
+    /// turn was told a number that isn't published. It takes no memory.
     pub fn close(self, turns: Vec<Turn<V>>) -> V
         requires own { All (λ t. IsTurnOf self t) turns.items }
         requires all { (n : ℕ) → n < self.seats → Any (λ t. t.number ≡ n) turns.items }

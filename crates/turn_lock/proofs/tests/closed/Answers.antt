@@ -1,4 +1,4 @@
-use Rattle.std.proofs.Common.{◌≡◌, ℕ, zero, suc, ◌<◌, List, [], ◌∷◌, refl, sym, subst, arith, rules}
+use Rattle.std.proofs.Common.{◌≡◌, ℕ, zero, suc, ◌<◌, [], ◌∷◌, refl, sym, subst, arith, rules}
 use Rattle.std.specs.List.{Any}
 use Rattle.turn_lock.specs.Turns.{Token}
 use Rattle.turn_lock.proofs.tests.closed.Goals as goal

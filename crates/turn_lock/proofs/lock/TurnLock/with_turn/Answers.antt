@@ -1,4 +1,3 @@
-use Rattle.std.proofs.Common.{rules}
 use Rattle.turn_lock.proofs.Seen.{finds, adds, has_number, rests_again, turns}
 use Rattle.turn_lock.proofs.lock.TurnLock.with_turn.Goals as goal
 
