@@ -1,0 +1,5 @@
+pub mod Fields
+pub mod Squares
+pub mod Means
+pub mod Laws
+pub mod Worked
