@@ -2,7 +2,7 @@
 ghost use Rattle.std.specs.Prelude.{◌≡◌};
 
 use crate::logged::Logged;
-use crate::rule::{Key, Law, View};
+use crate::rule::{Key, OneHistory, View};
 use atomic_table::{Seat, Table};
 use std::alloc::Global;
 
@@ -10,10 +10,10 @@ mod seats;
 mod steps;
 mod turns;
 
-pub(crate) type Place<V> = Seat<V, View<<V as Logged>::Event, <V as Logged>::Base>>;
+pub(crate) type LockSeat<V> = Seat<V, View<<V as Logged>::Event, <V as Logged>::Base>>;
 
 #[derive(Drop)]
 pub(crate) struct Board<V: Logged> {
-    pub(crate) table: Table<V, View<V::Event, V::Base>, Key<V>, Law, Global>,
+    pub(crate) table: Table<V, View<V::Event, V::Base>, Key<V>, OneHistory, Global>,
     ghost sized: { (table.shared.table_id.words ≡ 4) × (table.shared.table_id.slots ≡ 1) },
 }

@@ -1,7 +1,7 @@
 //! The lock and its turns.
 ghost use Rattle.std.specs.Prelude.{◌≡◌};
 
-use crate::board::{Board, Place};
+use crate::board::{Board, LockSeat};
 use crate::logged::Logged;
 use std::marker::Model;
 
@@ -37,7 +37,7 @@ impl<V: Logged> Model for TurnLock<V> {
 /// not closed.
 #[derive(Drop)]
 pub struct Turn<V: Logged> {
-    seat: Place<V>,
+    seat: LockSeat<V>,
 }
 
 impl<V: Logged> Model for Turn<V> {

@@ -41,17 +41,17 @@ impl<V: Logged> Play<V, View<V::Event, V::Base>> for Refresh {
     ghost then = { refreshed V.is_publish };
 }
 
-pub(crate) struct Give;
+pub(crate) struct GiveAway;
 
-impl<E, B> Split<View<E, B>> for Give {
+impl<E, B> Split<View<E, B>> for GiveAway {
     ghost left = { giver };
 
     ghost right = { given };
 }
 
-pub(crate) struct Glue;
+pub(crate) struct TakeIn;
 
-impl<E, B> Join<View<E, B>> for Glue {
+impl<E, B> Join<View<E, B>> for TakeIn {
     ghost both = { both };
 
     ghost spent = { spent };

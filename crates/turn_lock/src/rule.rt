@@ -55,9 +55,10 @@ pub struct Key<V> {
     pub seats: u32,
 }
 
-pub struct Law;
+/// The rule of the table: there is one history.
+pub struct OneHistory;
 
-impl<V: Logged> TableRule<V, View<V::Event, V::Base>, Key<V>> for Law {
+impl<V: Logged> TableRule<V, View<V::Event, V::Base>, Key<V>> for OneHistory {
     ghost use Rattle.turn_lock.specs.Rule.{Kept, beginner};
 
     ghost holds = { λ k. Kept V.events V.is_publish V.base (V.base k.start.value) k.seats };

@@ -5,9 +5,9 @@ ghost use Rattle.turn_lock.specs.Lists.{is_member};
 ghost use Rattle.turn_lock.specs.Rule.{beginner, IsWhole};
 ghost use Rattle.turn_lock.specs.Steps.{giver, given, both};
 
-use super::{Board, Place};
+use super::{Board, LockSeat};
 use crate::logged::Logged;
-use crate::plays::{Give, Glue};
+use crate::plays::{GiveAway, TakeIn};
 use crate::rule::Key;
 use atomic_table::Table;
 use std::alloc::Global;
@@ -20,7 +20,7 @@ impl<V: Logged> Board<V> {
         alloc: Global,
         value: V,
         seats: u32,
-    ) -> Result<(Board<V>, Place<V>), NoMemory>
+    ) -> Result<(Board<V>, LockSeat<V>), NoMemory>
         requires { V.events value ≡ [] }
         ensures key { IfOk result (λ r. (V.base r.0.table.shared.key.start.value ≡ V.base value) × (r.0.table.shared.key.seats ≡ seats)) }
         ensures seat { IfOk result (λ r. (r.1.table_id ≡ r.0.table.shared.table_id) × (r.1.me ≡ (beginner (V.base value) seats, []))) }
@@ -38,7 +38,7 @@ impl<V: Logged> Board<V> {
     }
 
     // The seat gives its first number away, to a new seat.
-    pub(crate) fn split(&self, seat: &mut Place<V>) -> Place<V>
+    pub(crate) fn split(&self, seat: &mut LockSeat<V>) -> LockSeat<V>
         requires own { seat.old.table_id ≡ self.now.table.shared.table_id }
         requires idle { seat.old.me.0.stage ≡ Idle }
         requires more { (n : ℕ) × (ns : List ℕ) × (seat.old.me.0.numbers ≡ n ∷ ns) × (is_member 0 ns ≡ true) }
@@ -46,22 +46,22 @@ impl<V: Logged> Board<V> {
         ensures left { seat.new.me ≡ (giver seat.old.me.0, seat.old.me.1) }
         ensures right { result.me ≡ (given seat.old.me.0, []) }
     {
-        self.table.shared.split_seat::<Give>(seat)
+        self.table.shared.split_seat::<GiveAway>(seat)
     }
 
     // The seat takes in what another knows.
-    pub(crate) fn join(&self, seat: &mut Place<V>, other: Place<V>)
+    pub(crate) fn join(&self, seat: &mut LockSeat<V>, other: LockSeat<V>)
         requires own { (seat.old.table_id ≡ self.now.table.shared.table_id) × (other.table_id ≡ self.now.table.shared.table_id) }
         requires idle { (seat.old.me.0.stage ≡ Idle) × (0 < length seat.old.me.0.numbers) }
         requires other { (other.me.1 ≡ []) × (other.me.0.stage ≡ Idle) }
         ensures own { seat.new.table_id ≡ seat.old.table_id }
         ensures both { seat.new.me ≡ (both seat.old.me.0 other.me.0, seat.old.me.1) }
     {
-        self.table.shared.join_seat::<Glue>(seat, other);
+        self.table.shared.join_seat::<TakeIn>(seat, other);
     }
 
     // Gives the value up, to the seat that has all numbers.
-    pub(crate) fn close(self, seat: Place<V>) -> V
+    pub(crate) fn close(self, seat: LockSeat<V>) -> V
         requires own { seat.table_id ≡ self.table.shared.table_id }
         requires idle { seat.me.0.stage ≡ Idle }
         requires all { (n : ℕ) → n < self.table.shared.key.seats → is_member n seat.me.0.numbers ≡ true }

@@ -5,7 +5,7 @@ ghost use Rattle.turn_lock.specs.declared.rule.Stage.TheVariants.{Idle, Waiting,
 ghost use Rattle.turn_lock.specs.Lists.{is_member};
 ghost use Rattle.turn_lock.specs.Steps.{with_stage, stage_after, view_after, Found, Adds, refreshed};
 
-use super::{Board, Place};
+use super::{Board, LockSeat};
 use crate::logged::Logged;
 use crate::plays::{Commit, Draw, Look, Pass, Raise, Refresh};
 use crate::rule::{COUNT, PUBLISHED, SERVING, TICKET};
@@ -14,7 +14,7 @@ use std::thread;
 
 impl<V: Logged> Board<V> {
     // Draws a ticket. At the last one it waits for ever.
-    pub(super) fn draw<R: Wait>(&self, rt: &R, seat: &mut Place<V>) -> u64
+    pub(super) fn draw<R: Wait>(&self, rt: &R, seat: &mut LockSeat<V>) -> u64
         requires own { seat.old.table_id ≡ self.now.table.shared.table_id }
         requires idle { (seat.old.me.0.stage ≡ Idle) × (0 < length seat.old.me.0.numbers) }
         ensures own { (seat.new.table_id ≡ seat.old.table_id) × (seat.new.id ≡ seat.old.id) }
@@ -38,7 +38,7 @@ impl<V: Logged> Board<V> {
     }
 
     // Looks until its own ticket is served. Then the slot is out with the seat.
-    pub(super) fn wait<R: Wait>(&self, rt: &R, seat: &mut Place<V>, ticket: u64)
+    pub(super) fn wait<R: Wait>(&self, rt: &R, seat: &mut LockSeat<V>, ticket: u64)
         requires own { seat.old.table_id ≡ self.now.table.shared.table_id }
         requires drawn { seat.old.me.0.stage ≡ Waiting ticket }
         ensures own { (seat.new.table_id ≡ seat.old.table_id) × (seat.new.id ≡ seat.old.id) }
@@ -54,7 +54,7 @@ impl<V: Logged> Board<V> {
     }
 
     // Says how long the history is now. The seat has seen it.
-    pub(super) fn commit(&self, seat: &mut Place<V>, ticket: u64, count: u64)
+    pub(super) fn commit(&self, seat: &mut LockSeat<V>, ticket: u64, count: u64)
         requires own { seat.old.table_id ≡ self.now.table.shared.table_id }
         requires held { (found : List V.Event) × (y : V) × (seat.old.me.0.stage ≡ Holding ticket found) × (seat.old.me.1 ≡ (0, y) ∷ []) × Adds V.is_publish (is_member 0 seat.old.me.0.numbers) found (V.events y) × (count ≡ length (V.events y)) }
         ensures own { (seat.new.table_id ≡ seat.old.table_id) × (seat.new.id ≡ seat.old.id) }
@@ -64,7 +64,7 @@ impl<V: Logged> Board<V> {
     }
 
     // Says that a publishing event was committed, if it was.
-    pub(super) fn announce(&self, seat: &mut Place<V>, ticket: u64, before: u64, published: u64)
+    pub(super) fn announce(&self, seat: &mut LockSeat<V>, ticket: u64, before: u64, published: u64)
         requires own { seat.old.table_id ≡ self.now.table.shared.table_id }
         requires committed { (found : List V.Event) × (seat.old.me.0.stage ≡ stage_after V.is_publish ticket found seat.old.me.0.seen) × (before ≡ count_by V.is_publish found) × (published ≡ count_by V.is_publish seat.old.me.0.seen) }
         ensures own { (seat.new.table_id ≡ seat.old.table_id) × (seat.new.id ≡ seat.old.id) }
@@ -75,7 +75,7 @@ impl<V: Logged> Board<V> {
         }
     }
 
-    fn raise(&self, seat: &mut Place<V>, ticket: u64, published: u64)
+    fn raise(&self, seat: &mut LockSeat<V>, ticket: u64, published: u64)
         requires own { seat.old.table_id ≡ self.now.table.shared.table_id }
         requires committed { (seat.old.me.0.stage ≡ Raising ticket) × (published ≡ count_by V.is_publish seat.old.me.0.seen) }
         ensures own { (seat.new.table_id ≡ seat.old.table_id) × (seat.new.id ≡ seat.old.id) }
@@ -85,7 +85,7 @@ impl<V: Logged> Board<V> {
     }
 
     // Gives the slot back, and lets the next ticket be served.
-    pub(super) fn pass(&self, seat: &mut Place<V>, ticket: u64)
+    pub(super) fn pass(&self, seat: &mut LockSeat<V>, ticket: u64)
         requires own { seat.old.table_id ≡ self.now.table.shared.table_id }
         requires held { (y : V) × (seat.old.me.0.stage ≡ Committed ticket) × (seat.old.me.1 ≡ (0, y) ∷ []) × (V.events y ≡ seat.old.me.0.seen) × (seat.old.me.0.base ≡ Some (V.base y)) }
         requires room { ticket + 1 < 2 ^ 64 }
@@ -96,7 +96,7 @@ impl<V: Logged> Board<V> {
     }
 
     // The last published number, by one load.
-    pub(crate) fn fresh(&self, seat: &mut Place<V>) -> u64
+    pub(crate) fn fresh(&self, seat: &mut LockSeat<V>) -> u64
         requires own { seat.old.table_id ≡ self.now.table.shared.table_id }
         requires idle { seat.old.me.0.stage ≡ Idle }
         ensures own { (seat.new.table_id ≡ seat.old.table_id) × (seat.new.id ≡ seat.old.id) }

@@ -5,7 +5,7 @@ ghost use Rattle.turn_lock.specs.declared.rule.Stage.TheVariants.{Idle, Holding}
 ghost use Rattle.turn_lock.specs.Lists.{is_member};
 ghost use Rattle.turn_lock.specs.Steps.{with_stage, view_after, Found, Adds};
 
-use super::{Board, Place};
+use super::{Board, LockSeat};
 use crate::logged::Logged;
 use std::sync::Wait;
 
@@ -14,7 +14,7 @@ impl<V: Logged> Board<V> {
     pub(crate) fn take_turn<R, F: FnOnce(&mut V) -> R, W: Wait>(
         &self,
         rt: &W,
-        seat: &mut Place<V>,
+        seat: &mut LockSeat<V>,
         call: F,
     ) -> R
         requires own { seat.old.table_id ≡ self.now.table.shared.table_id }
@@ -36,7 +36,7 @@ impl<V: Logged> Board<V> {
     }
 
     // Waits for a turn, and answers its ticket. The value is out with the seat then.
-    fn enter<W: Wait>(&self, rt: &W, seat: &mut Place<V>) -> u64
+    fn enter<W: Wait>(&self, rt: &W, seat: &mut LockSeat<V>) -> u64
         requires own { seat.old.table_id ≡ self.now.table.shared.table_id }
         requires rests { (seat.old.me.1 ≡ []) × (seat.old.me.0.stage ≡ Idle) × (0 < length seat.old.me.0.numbers) }
         ensures own { (seat.new.table_id ≡ seat.old.table_id) × (seat.new.id ≡ seat.old.id) }
@@ -49,7 +49,7 @@ impl<V: Logged> Board<V> {
     }
 
     // Ends the turn: what the value stands for is the history now.
-    fn leave(&self, seat: &mut Place<V>, ticket: u64, before: u64, count: u64, published: u64)
+    fn leave(&self, seat: &mut LockSeat<V>, ticket: u64, before: u64, count: u64, published: u64)
         requires own { seat.old.table_id ≡ self.now.table.shared.table_id }
         requires held { (found : List V.Event) × (y : V) × (seat.old.me.0.stage ≡ Holding ticket found) × (seat.old.me.1 ≡ (0, y) ∷ []) × (seat.old.me.0.base ≡ Some (V.base y)) × Adds V.is_publish (is_member 0 seat.old.me.0.numbers) found (V.events y) × (before ≡ count_by V.is_publish found) × (count ≡ length (V.events y)) × (published ≡ count_by V.is_publish (V.events y)) }
         requires room { ticket + 1 < 2 ^ 64 }

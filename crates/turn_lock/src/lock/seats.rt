@@ -5,13 +5,13 @@ ghost use Rattle.turn_lock.specs.Rule.{beginner};
 ghost use Rattle.turn_lock.specs.Turns.{new_token, Gathers};
 
 use super::Turn;
-use crate::board::{Board, Place};
+use crate::board::{Board, LockSeat};
 use crate::logged::Logged;
 
 // A turn for each number, in rising order.
 pub(super) fn deal<V: Logged>(
     board: &Board<V>,
-    mut seat: Place<V>,
+    mut seat: LockSeat<V>,
     seats: u32,
     turns: &mut Vec<Turn<V>>,
 )
@@ -34,7 +34,7 @@ pub(super) fn deal<V: Logged>(
 }
 
 // One seat that knows what the seats of all these turns knew.
-pub(super) fn gather<V: Logged>(board: &Board<V>, mut turns: Vec<Turn<V>>) -> Place<V>
+pub(super) fn gather<V: Logged>(board: &Board<V>, mut turns: Vec<Turn<V>>) -> LockSeat<V>
     requires own { All (λ t. t.table ≡ board.now.table.shared.table_id) turns.items }
     requires some { 0 < vec_len turns }
     ensures own { result.table_id ≡ board.now.table.shared.table_id }
