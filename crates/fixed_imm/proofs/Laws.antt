@@ -1,20 +1,19 @@
 -- What the filter gives stays within its bounds, whatever it is given.
-use Rattle.std.proofs.Common.{◌≡◌, ◌∙◌, ℕ, ◌+◌, ◌-◌, ◌*◌, ◌^◌, ◌≤◌, ◌<◌, ℤ, pos, negsuc, neg_ℤ, ◌-ℤ◌, ◌*ℤ◌, ◌≤ℤ◌, inl, inr, arith, eqb}
+use Rattle.std.proofs.Common.{ℕ, ◌+◌, ◌*◌, ◌^◌, ◌≤◌, ℤ, pos, neg_ℤ, ◌-ℤ◌, ◌*ℤ◌, arith, eqb}
 use Rattle.std.specs.Prelude.{unsigned_abs}
 use Rattle.std.proofs.Math.Nat.{le_trans}
-use Rattle.std.proofs.lemmas.Bool.{cond_both, cases_lt}
-use Rattle.std.proofs.lemmas.Int.{ints, clamps, unsigned_abs-mul}
+use Rattle.std.proofs.lemmas.Bool.{cond_both}
+use Rattle.std.proofs.lemmas.Int.{ints, clamps}
 use Rattle.std.proofs.lemmas.Nat.{mul-le}
-use Rattle.trk_base.specs.Numbers.{clamp, isqrt, IsRoot}
-use Rattle.trk_base.proofs.Roots.{isqrt_root}
+use Rattle.trk_base.specs.Numbers.{clamp, isqrt}
 use Rattle.fixed_imm.specs.declared.motion.Motion.{Motion}
 use Rattle.fixed_imm.specs.Values.{AxisState}
 use Rattle.fixed_imm.specs.Bounds.{variance_limit, variance_within, bounded, weights, IsBetween, IsBounded, IsWeights, IsAxis, IsPosition, IsVariance}
-use Rattle.fixed_imm.specs.Mixing.{share, mixed, overall, place_of}
+use Rattle.fixed_imm.specs.Mixing.{share, overall}
 use Rattle.fixed_imm.specs.Prediction.{predicted_motion}
 use Rattle.fixed_imm.specs.Correction.{corrected, posterior_weights}
-use Rattle.fixed_imm.specs.Filter.{started, predicted_weights, mixed_model, predicted_model, predicted, combined, corrected_model, measured, updated}
-use Rattle.fixed_imm.proofs.Fields.{size_from_range}
+use Rattle.fixed_imm.specs.Filter.{started, predicted_weights, predicted_model, predicted, combined, corrected_model, measured, updated}
+use Rattle.fixed_imm.proofs.Covariances.{root_square, root_from_square}
 use Rattle.fixed_imm.proofs.Means.{mean_within, variance_within as spread_within}
 
 clamp_size : (x : ℤ) (m : ℕ) → unsigned_abs (clamp x (neg_ℤ (pos m)) (pos m)) ≤ m
@@ -22,12 +21,6 @@ clamp_size x m = omega (arith, ints, clamps)
 
 variance_range : (x : ℤ) → IsBetween (pos 1) (variance_within x) variance_limit
 variance_range x = record { from = omega (arith, ints, clamps); to = omega (arith, ints, clamps) }
-
-root_square : (a b : ℤ) → IsBetween (pos 1) a variance_limit → IsBetween (pos 1) b variance_limit → isqrt (unsigned_abs (a *ℤ b)) * isqrt (unsigned_abs (a *ℤ b)) ≤ unsigned_abs a * unsigned_abs b
-root_square a b h k =
-    let product : unsigned_abs (a *ℤ b) ≡ unsigned_abs a * unsigned_abs b = unsigned_abs-mul a b in
-    let size : unsigned_abs a * unsigned_abs b ≤ 2 ^ 46 * 2 ^ 46 = mul-le (unsigned_abs a) (unsigned_abs b) (2 ^ 46) (2 ^ 46) (size_from_range h) (size_from_range k) in
-    rw product (isqrt_root (unsigned_abs a * unsigned_abs b) (omega arith)).low
 
 covariance_square : (x : ℤ) (w n : ℕ) → w * w ≤ n → unsigned_abs (clamp x (neg_ℤ (pos w)) (pos w)) * unsigned_abs (clamp x (neg_ℤ (pos w)) (pos w)) ≤ n
 covariance_square x w n h = le_trans (mul-le (unsigned_abs (clamp x (neg_ℤ (pos w)) (pos w))) (unsigned_abs (clamp x (neg_ℤ (pos w)) (pos w))) w w (clamp_size x w) (clamp_size x w)) h
@@ -42,22 +35,9 @@ bounded_is p v p11 p12 p22 = record {
   p12 = covariance_square p12 _ _ (root_square (variance_within p11) (variance_within p22) (variance_range p11) (variance_range p22));
 }
 
-root_ge : (n r c : ℕ) → IsRoot n r → c * c ≤ n → c ≤ r
-root_ge n r c root le =
-    elim (cases_lt r c) [
-      | inl lt ↦ absurd (omega (arith, root.high, mul-le (r + 1) (r + 1) c c (omega arith) (omega arith)))
-      | inr ge ↦ ge
-    ]
-
 -- a covariance is within its bounds exactly where it is at most the root of the product of both variances
 pub covariance_root : (m : Motion) → IsBounded m → unsigned_abs m.p12 ≤ isqrt (unsigned_abs (m.p11 *ℤ m.p22))
-covariance_root m h =
-    let product : unsigned_abs (m.p11 *ℤ m.p22) ≡ unsigned_abs m.p11 * unsigned_abs m.p22 = unsigned_abs-mul m.p11 m.p22 in
-    let size : unsigned_abs m.p11 * unsigned_abs m.p22 ≤ 2 ^ 46 * 2 ^ 46 = mul-le (unsigned_abs m.p11) (unsigned_abs m.p22) (2 ^ 46) (2 ^ 46) (size_from_range h.p11) (size_from_range h.p22) in
-    rw product (root_ge _ _ (unsigned_abs m.p12) (isqrt_root (unsigned_abs m.p11 * unsigned_abs m.p22) (omega arith)) h.p12)
-
-pub square_from_root : (c a b : ℤ) → IsBetween (pos 1) a variance_limit → IsBetween (pos 1) b variance_limit → unsigned_abs c ≤ isqrt (unsigned_abs (a *ℤ b)) → unsigned_abs c * unsigned_abs c ≤ unsigned_abs a * unsigned_abs b
-square_from_root c a b h k le = le_trans (mul-le (unsigned_abs c) (unsigned_abs c) _ _ le le) (root_square a b h k)
+covariance_root m h = root_from_square m.p12 m.p11 m.p22 h.p11 h.p22 h.p12
 
 pub weights_is : (x : ℤ) → IsWeights (weights x)
 unfolding weights

@@ -1,5 +1,5 @@
 -- The definitions at numbers that were computed apart from them.
-use Rattle.std.proofs.Common.{◌≡◌, refl, ℤ, pos}
+use Rattle.std.proofs.Common.{◌≡◌, refl, pos}
 use Rattle.trk_base.specs.Numbers.{isqrt, exp2_lin}
 use Rattle.fixed_imm.specs.Bounds.{bounded, weights}
 use Rattle.fixed_imm.specs.Mixing.{share, mean, covariance, mixed, overall}
@@ -9,8 +9,10 @@ use Rattle.fixed_imm.specs.Filter.{started, predicted_weights, mixed_model, pred
 
 -- a target that was seen at 0, and four seconds later at 1,000 m, each time with a standard deviation of 50 m
 followed : updated (started (pos 0) 10240000) (pos 512) (pos 64000) 10240000 ≡ record {
-  motion = (record { p = pos 63889; v = pos 255115; p11 = pos 10222284; p12 = pos 40818346; p22 = pos 326896892 },
-    record { p = pos 63889; v = pos 255236; p11 = pos 10222300; p12 = pos 40837736; p22 = pos 416313915 });
+  motion = (
+    record { p = pos 63889; v = pos 255115; p11 = pos 10222284; p12 = pos 40818346; p22 = pos 326896892 },
+    record { p = pos 63889; v = pos 255236; p11 = pos 10222300; p12 = pos 40837736; p22 = pos 416313915 },
+  );
   weight = (48335, 17201);
 }
 unfolding isqrt exp2_lin bounded weights share mean covariance mixed predicted_p predicted_p11 predicted_p12 predicted_p22 predicted_motion raised lowered corrected likelihood posterior_weights started predicted_weights mixed_model predicted_model predicted corrected_model model_likelihood measured updated

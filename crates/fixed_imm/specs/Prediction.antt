@@ -1,7 +1,7 @@
 -- One model, d units of 1/128 s later: a constant velocity, disturbed by white noise acceleration (Bar-Shalom, 6.2.2).
 -- A position is in 1/64 m and a velocity in 1/1024 m/s, so a velocity v moves a position by v * d / 2,048.
 -- The noise q is the variance that a velocity gains in 1/128 s.
-use Rattle.std.specs.Prelude.{ℕ, ℤ, pos, ◌+ℤ◌, ◌*ℤ◌, unsigned_abs}
+use Rattle.std.specs.Prelude.{ℤ, pos, ◌+ℤ◌, ◌*ℤ◌, unsigned_abs}
 use Rattle.trk_base.specs.Numbers.{round}
 use Rattle.fixed_imm.specs.declared.motion.Motion.{Motion}
 use Rattle.fixed_imm.specs.Bounds.{bounded}

@@ -23,9 +23,7 @@ impl Model for Aim {
 
     ghost view = { λ a. record { x = a.x; y = a.y; time = a.time; address = a.address; code = a.code } };
 
-    ghost invariant = {
-        λ a. IsAim (record { x = a.x; y = a.y; time = a.time; address = a.address; code = a.code })
-    };
+    ghost invariant = { λ a. IsAim (record { x = a.x; y = a.y; time = a.time; address = a.address; code = a.code }) };
 
     ghost inverse = { λ a. record { x = a.x; y = a.y; time = a.time; address = a.address; code = a.code } };
 }

@@ -180,7 +180,10 @@ mod tests {
         let seen = Axis::start(0, 10_240_000);
         let axis = seen.update(512, 64_000, 10_240_000);
         let (first, second) = axis.motion;
-        assert_eq!(rt; (first.p, first.v, first.p11), (63_889, 255_115, 10_222_284));
+        assert_eq!(rt;
+            (first.p, first.v, first.p11),
+            (63_889, 255_115, 10_222_284)
+        );
         assert_eq!(rt; (second.p, second.v), (63_889, 255_236));
         assert_eq!(rt; axis.weight, (48_335, 17_201));
     }

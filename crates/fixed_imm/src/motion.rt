@@ -64,6 +64,21 @@ fn covariance_limit(a: i64, b: i64) -> i64
     isqrt(a.unsigned_abs() as u128 * b.unsigned_abs() as u128) as i64
 }
 
+/// The covariance of these variances nearest to `x`.
+fn covariance_within(x: i128, a: i64, b: i64) -> i64
+    requires first { IsBetween (pos 1) a variance_limit }
+    requires second { IsBetween (pos 1) b variance_limit }
+    ensures value { result ≡ clamp x (neg_ℤ (covariance_limit a b)) (covariance_limit a b) }
+    ensures square { unsigned_abs result * unsigned_abs result ≤ unsigned_abs a * unsigned_abs b }
+{
+    // The root takes most of the time of a step, and a covariance seldom needs it.
+    let size = x.unsigned_abs();
+    if size <= 1 << 46 && size * size <= a.unsigned_abs() as u128 * b.unsigned_abs() as u128 {
+        return x as i64;
+    }
+    nearest_within(x, covariance_limit(a, b))
+}
+
 /// A model with these values, each brought into its range.
 pub(crate) fn bounded(p: i128, v: i128, p11: i128, p12: i128, p22: i128) -> Motion
     ensures value { result ≡ bounded p v p11 p12 p22 }
@@ -75,7 +90,7 @@ pub(crate) fn bounded(p: i128, v: i128, p11: i128, p12: i128, p22: i128) -> Moti
         p: nearest_within(p, POSITION_LIMIT),
         v: nearest_within(v, VELOCITY_LIMIT),
         p11,
-        p12: nearest_within(p12, covariance_limit(p11, p22)),
+        p12: covariance_within(p12, p11, p22),
         p22,
     }
 }

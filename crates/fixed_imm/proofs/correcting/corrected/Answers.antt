@@ -1,4 +1,4 @@
-use Rattle.std.proofs.Common.{◌≡◌, ◌∙◌, lit≤}
+use Rattle.std.proofs.Common.{◌∙◌, lit≤}
 use Rattle.trk_base.proofs.Sizes.{through, var, size}
 use Rattle.fixed_imm.specs.Bounds.{bounded}
 use Rattle.fixed_imm.specs.Correction.{raised, lowered, corrected}

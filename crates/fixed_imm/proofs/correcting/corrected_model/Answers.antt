@@ -1,5 +1,4 @@
-use Rattle.std.proofs.Common.{◌≡◌, ◌∙◌, ◌^◌, pos, ◌+ℤ◌, ◌-ℤ◌, arith}
-use Rattle.std.specs.Int.{w128, cast_signed, cast_unsigned}
+use Rattle.std.proofs.Common.{◌∙◌}
 use Rattle.trk_base.proofs.Sizes.{wide, plus, minus}
 use Rattle.fixed_imm.specs.Correction.{corrected, likelihood}
 use Rattle.fixed_imm.specs.Filter.{corrected_model, model_likelihood}

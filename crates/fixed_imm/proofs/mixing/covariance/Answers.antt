@@ -1,5 +1,5 @@
 use Rattle.std.proofs.Common.{lit<}
-use Rattle.trk_base.proofs.Sizes.{var, times, plus, minus, rounded, is_pos, is_mul, is_add, fits, below}
+use Rattle.trk_base.proofs.Sizes.{var, times, plus, rounded, is_mul, is_add, fits, below}
 use Rattle.fixed_imm.specs.Mixing.{covariance}
 use Rattle.fixed_imm.proofs.Fields.{part_of, rest_of}
 use Rattle.fixed_imm.proofs.mixing.covariance.Goals as goal

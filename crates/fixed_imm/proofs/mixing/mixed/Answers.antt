@@ -1,5 +1,5 @@
-use Rattle.std.proofs.Common.{◌≡◌, ◌∙◌, lit<, lit≤, ◌*ℤ◌}
-use Rattle.trk_base.proofs.Sizes.{Is, through, times, is_mul, fits, size}
+use Rattle.std.proofs.Common.{◌∙◌, lit<, lit≤}
+use Rattle.trk_base.proofs.Sizes.{through, times, is_mul, fits, size}
 use Rattle.fixed_imm.specs.Bounds.{bounded}
 use Rattle.fixed_imm.specs.Mixing.{mean, covariance, mixed}
 use Rattle.fixed_imm.proofs.Fields.{part_of}

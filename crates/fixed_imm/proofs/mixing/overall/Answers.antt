@@ -1,4 +1,4 @@
-use Rattle.std.proofs.Common.{◌≡◌, ◌∙◌, ◌*◌, ◌+◌, ◌^◌, ℤ, pos, ◌*ℤ◌, ◌-ℤ◌, lit<, lit≤}
+use Rattle.std.proofs.Common.{◌∙◌, ◌*◌, ◌+◌, ◌^◌, pos, ◌*ℤ◌, ◌-ℤ◌, lit<, lit≤}
 use Rattle.std.specs.Int.{w128, cast_signed, cast_unsigned}
 use Rattle.trk_base.proofs.Sizes.{Is, through, wide, minus, times, is_mul, is_cast64, fits, size}
 use Rattle.fixed_imm.specs.declared.motion.Place.{Place}

@@ -1,5 +1,5 @@
-use Rattle.std.proofs.Common.{◌≡◌, ◌∙◌, lit≤}
-use Rattle.trk_base.proofs.Sizes.{Is, through, var, size}
+use Rattle.std.proofs.Common.{◌∙◌, lit≤}
+use Rattle.trk_base.proofs.Sizes.{through, var, size}
 use Rattle.fixed_imm.specs.Bounds.{bounded}
 use Rattle.fixed_imm.specs.Prediction.{predicted_p, predicted_p11, predicted_p12, predicted_p22, predicted_motion}
 use Rattle.fixed_imm.proofs.Fields.{p_of, v_of, p11_of, p12_of, p22_of}

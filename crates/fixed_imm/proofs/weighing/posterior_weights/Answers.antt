@@ -1,5 +1,5 @@
 use Rattle.std.proofs.Common.{◌≡◌, ◌∙◌, ℕ, ◌+◌, ◌*◌, sym, eqb}
-use Rattle.std.proofs.lemmas.Bool.{cond_both, eqb-true, eqb-false, false≢true}
+use Rattle.std.proofs.lemmas.Bool.{cond_both, eqb-true, eqb-false}
 use Rattle.trk_base.proofs.Sizes.{through}
 use Rattle.fixed_imm.specs.Bounds.{weights}
 use Rattle.fixed_imm.specs.Mixing.{share}

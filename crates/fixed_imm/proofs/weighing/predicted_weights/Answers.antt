@@ -1,4 +1,4 @@
-use Rattle.std.proofs.Common.{◌≡◌, ◌∙◌, ◌+◌, ◌*◌, pos}
+use Rattle.std.proofs.Common.{◌∙◌, ◌+◌, ◌*◌, pos}
 use Rattle.trk_base.specs.Numbers.{round}
 use Rattle.trk_base.proofs.Sizes.{through}
 use Rattle.fixed_imm.specs.Bounds.{weights}

@@ -1,4 +1,4 @@
-use Rattle.std.proofs.Common.{◌≡◌, Bool, true, false, nat_eq, ap, ◌∙◌, refl, arith}
+use Rattle.std.proofs.Common.{◌≡◌, Bool, true, false, refl, arith}
 use Rattle.std.specs.Prelude.{◌&&◌}
 use Rattle.fixed_imm.proofs.aim.AimPartialEq.eq.Goals as goal
 

@@ -1,4 +1,4 @@
-use Rattle.std.proofs.Common.{◌≡◌, ◌∙◌, ◌*◌, ap}
+use Rattle.std.proofs.Common.{◌∙◌, ◌*◌, ap}
 use Rattle.trk_base.proofs.Sizes.{through}
 use Rattle.fixed_imm.specs.Mixing.{share, mixed}
 use Rattle.fixed_imm.specs.Filter.{mixed_model}
