@@ -2,3 +2,9 @@ pub mod Blocks
 pub mod Places
 pub mod Answers
 pub mod Groups
+pub mod Tables
+pub mod Presence
+pub mod Names
+pub mod Parts
+pub mod Items
+pub mod Records

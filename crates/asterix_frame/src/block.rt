@@ -1,6 +1,7 @@
 ghost use Rattle.std.specs.Prelude.{◌+◌, ◌<◌, ◌^◌, length};
 
 use std::alloc::AllocFailed;
+use trk_base::NoMemory;
 
 /// The octets of a block's head: its category and its length.
 pub(crate) const HEAD: usize = 3;
@@ -37,10 +38,10 @@ pub struct Malformed {
     pub cause: u8,
 }
 
-/// Why a datagram wasn't cut into its blocks.
+/// Why a datagram wasn't cut into its blocks, or a record not walked.
 #[derive(Clone, Copy, Debug, PartialEq, Eq)]
 pub enum BlocksError {
-    /// The datagram isn't a list of data blocks: `BLOCK_SHORT` or `BLOCK_LENGTH`.
+    /// The octets aren't in the grammar.
     Malformed(Malformed),
     /// Memory is wanting.
     NoMemory,
@@ -54,6 +55,17 @@ impl From<Malformed> for BlocksError {
 
     fn from(malformed: Malformed) -> Self {
         BlocksError::Malformed(malformed)
+    }
+}
+
+impl From<NoMemory> for BlocksError {
+    ghost use Rattle.std.specs.Prelude.{◌≡◌};
+    ghost use Rattle.asterix_frame.specs.declared.block.BlocksError.TheVariants as errors;
+
+    ghost from_gives = { λ _ e. e ≡ errors.NoMemory };
+
+    fn from(_: NoMemory) -> Self {
+        BlocksError::NoMemory
     }
 }
 

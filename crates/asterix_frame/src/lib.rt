@@ -4,10 +4,16 @@
 mod block;
 pub mod cause;
 mod framing;
+mod items;
+mod presence;
+mod tables;
+mod walk;
 mod writer;
 
 pub use block::{Block, BlocksError, Malformed};
 pub use framing::{blocks, first_block, one_reading};
+pub use tables::{Compound, Item, Subfield, Uap};
+pub use walk::{ItemSpans, ItemWalk, WalkError, one_walk, walk_items, walk_record};
 pub use writer::{BLOCK_LIMIT, BlockWriter, RECORD_LIMIT, one_setting};
 
 #[cfg(test)]

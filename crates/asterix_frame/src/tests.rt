@@ -1,4 +1,9 @@
-use crate::{Block, BlockWriter, BlocksError, Malformed, blocks, first_block};
+use crate::{
+    Block, BlockWriter, BlocksError, ItemSpans, Malformed, Uap, WalkError, blocks, cause,
+    first_block, walk_items, walk_record,
+};
+use std::alloc::Global;
+use std::process::Abort;
 use std::test::Fail;
 
 // A datagram, and its first fault.
@@ -71,4 +76,172 @@ fn fills_a_block_to_its_limit(rt: HostRuntime) -> Result<(), Fail> {
     assert_eq!(rt; block.len(), 1_400);
     assert_eq!(rt; block.get(..3), Some([0x3E, 0x05, 0x78].as_slice()));
     Ok(())
+}
+
+// A block, and the first fault of its first record.
+const RECORD_FAULTS: [(&[u8], usize, u8); 9] = [
+    (&[0x30, 0x00, 0x04, 0x81], 4, cause::FSPEC_END),
+    (
+        &[0x30, 0x00, 0x08, 0x01, 0x01, 0x01, 0x01, 0x80],
+        7,
+        cause::SPARE_FRN,
+    ),
+    (&[0x30, 0x00, 0x05, 0x80, 0x01], 4, cause::ITEM_END),
+    (
+        &[0x30, 0x00, 0x08, 0x01, 0x01, 0x01, 0x02, 0x00],
+        7,
+        cause::LENGTH_ZERO,
+    ),
+    (
+        &[0x30, 0x00, 0x06, 0x02, 0x01, 0x80],
+        5,
+        cause::UNKNOWN_SUBFIELD,
+    ),
+    // the spare bit comes before the end of the FSPEC, and the unknown bit before the end of the primary field
+    (
+        &[0x30, 0x00, 0x08, 0x01, 0x01, 0x01, 0x01, 0x81],
+        7,
+        cause::SPARE_FRN,
+    ),
+    (
+        &[0x30, 0x00, 0x07, 0x01, 0x01, 0x04, 0x21],
+        6,
+        cause::UNKNOWN_SUBFIELD,
+    ),
+    // an extended item, and a repeated subfield, that aren't at their end with the block
+    (&[0x30, 0x00, 0x06, 0x20, 0x01, 0x01], 4, cause::ITEM_END),
+    (
+        &[0x30, 0x00, 0x0A, 0x01, 0x01, 0x04, 0x40, 0x01, 0x00, 0x00],
+        6,
+        cause::ITEM_END,
+    ),
+];
+
+#[test]
+fn tells_the_first_fault_of_a_record(rt: HostRuntime) {
+    for (datagram, offset, cause) in RECORD_FAULTS {
+        let block = first_block(datagram, 0).expect(&rt, "a block");
+        assert!(rt; !block.body.is_empty());
+        let fault = Malformed { offset, cause };
+        let got = walk_record(rt.alloc(), Uap::Cat048, &block, 0).err();
+        assert_eq!(rt; got, Some(WalkError::Malformed(fault)));
+    }
+}
+
+#[test]
+fn walks_the_items_before_a_fault(rt: HostRuntime) -> Result<(), Fail> {
+    let plot = [
+        0xF0, 0x01, 0x01, 0x46, 0x50, 0x0A, 0xA0, 0x01, 0x00, 0x00, 0x00,
+    ];
+    let whole = Block {
+        cat: 48,
+        at: 3,
+        body: &plot,
+    };
+    let record = walk_record(rt.alloc(), Uap::Cat048, &whole, 0).expect(&rt, "a record");
+    assert_eq!(rt;
+        record.frns.as_slice(),
+        [(1, 1, 3), (2, 3, 6), (3, 6, 7), (4, 7, 11)].as_slice()
+    );
+    assert_eq!(rt; record.next, 11);
+    let cut = Block {
+        cat: 48,
+        at: 3,
+        body: &plot[..9],
+    };
+    let walk = walk_items(rt.alloc(), Uap::Cat048, &cut, 0)?;
+    assert_eq!(rt;
+        walk.frns.as_slice(),
+        [(1, 1, 3), (2, 3, 6), (3, 6, 7)].as_slice()
+    );
+    assert_eq!(rt;
+        walk.end,
+        Err(Malformed {
+            offset: 10,
+            cause: cause::ITEM_END
+        })
+    );
+    Ok(())
+}
+
+// A record of all items of a category, and their ends.
+fn walks_all(rt: &impl Abort, alloc: Global, uap: Uap, record: &[u8], ends: &[usize]) {
+    let got = walked(alloc, uap, record).expect(rt, "a record");
+    assert_eq!(rt; got.frns.len(), ends.len());
+    for (item, end) in got.frns.iter().zip(ends) {
+        assert_eq!(rt; item.2, *end, "{uap:?} {}", item.0);
+    }
+    assert_eq!(rt; got.next, record.len());
+    let items = uap.table().iter().filter(|item| item.is_item()).count();
+    assert_eq!(rt; items, ends.len());
+}
+
+fn walked(alloc: Global, uap: Uap, record: &[u8]) -> Result<ItemSpans, WalkError> {
+    if record.is_empty() || record.len() > 200 {
+        return Err(WalkError::NoMemory);
+    }
+    let block = Block {
+        cat: 0,
+        at: 0,
+        body: record,
+    };
+    walk_record(alloc, uap, &block, 0)
+}
+
+#[test]
+fn walks_cat034(rt: HostRuntime) {
+    let record = [
+        0xFF, 0xFE, 0x00, 0x00, 0x00, 0x00, 0x00, 0x00, 0x00, 0x00, 0x00, 0x9C, 0x00, 0x00, 0x00,
+        0x00, 0x00, 0x9C, 0x00, 0x00, 0x00, 0x00, 0x02, 0x00, 0x00, 0x00, 0x00, 0x00, 0x00, 0x00,
+        0x00, 0x00, 0x00, 0x00, 0x00, 0x00, 0x00, 0x00, 0x00, 0x00, 0x00, 0x00, 0x00, 0x00, 0x00,
+        0x00, 0x03, 0x00, 0x00, 0x01,
+    ];
+    let ends = [4, 5, 8, 9, 11, 17, 22, 27, 35, 36, 44, 46, 49, 50];
+    walks_all(&rt, rt.alloc(), Uap::Cat034, &record, &ends);
+}
+
+#[test]
+fn walks_cat048(rt: HostRuntime) {
+    let record = [
+        0xFF, 0xFF, 0xFF, 0xFE, 0x00, 0x00, 0x00, 0x00, 0x00, 0x01, 0x01, 0x00, 0x00, 0x00, 0x00,
+        0x00, 0x00, 0x00, 0x00, 0x00, 0xFE, 0x00, 0x00, 0x00, 0x00, 0x00, 0x00, 0x00, 0x00, 0x00,
+        0x00, 0x00, 0x00, 0x00, 0x00, 0x00, 0x00, 0x01, 0x00, 0x00, 0x00, 0x00, 0x00, 0x00, 0x00,
+        0x00, 0x00, 0x00, 0x00, 0x00, 0x00, 0x00, 0x00, 0x00, 0x00, 0x00, 0x01, 0x00, 0x00, 0x00,
+        0x00, 0x00, 0x00, 0x00, 0x00, 0x00, 0x00, 0x00, 0x00, 0x00, 0x00, 0xC1, 0x00, 0x00, 0x00,
+        0x01, 0x00, 0x00, 0x00, 0x00, 0x00, 0x00, 0x00, 0x00, 0x00, 0x00, 0x00, 0x00, 0x00, 0x00,
+        0x00, 0x00, 0x00, 0x00, 0x00, 0x00, 0x00, 0x02, 0x00, 0x01,
+    ];
+    let ends = [
+        6, 9, 12, 16, 18, 20, 28, 31, 37, 46, 48, 52, 56, 58, 62, 63, 65, 69, 71, 82, 84, 91, 92,
+        94, 95, 97, 99, 100,
+    ];
+    walks_all(&rt, rt.alloc(), Uap::Cat048, &record, &ends);
+}
+
+#[test]
+fn walks_cat062(rt: HostRuntime) {
+    let record = [
+        0xB7, 0x5F, 0x21, 0x04, 0x00, 0x00, 0x00, 0x00, 0x00, 0x00, 0x00, 0x00, 0x00, 0x00, 0x00,
+        0x00, 0x00, 0x00, 0x00, 0x00, 0x00, 0x00, 0x80, 0x00, 0x00, 0x00, 0x00, 0x00, 0x00, 0x00,
+        0x00, 0x00, 0x70, 0x00, 0x00, 0x00, 0x00, 0x00, 0x80, 0x00, 0x00, 0x00, 0x00,
+    ];
+    let ends = [6, 7, 10, 16, 20, 22, 26, 28, 32, 36, 38, 43];
+    walks_all(&rt, rt.alloc(), Uap::Cat062, &record, &ends);
+}
+
+#[test]
+fn walks_cat063(rt: HostRuntime) {
+    let record = [
+        0xFF, 0x80, 0x00, 0x00, 0x00, 0x00, 0x00, 0x00, 0x00, 0x00, 0x00, 0x00, 0x00, 0x00, 0x00,
+        0x00, 0x00, 0x00, 0x00,
+    ];
+    let ends = [4, 5, 8, 10, 11, 13, 17, 19];
+    walks_all(&rt, rt.alloc(), Uap::Cat063, &record, &ends);
+}
+
+#[test]
+fn walks_cat065(rt: HostRuntime) {
+    let record = [0xFC, 0x00, 0x00, 0x00, 0x00, 0x00, 0x00, 0x00, 0x00, 0x00];
+    let ends = [3, 4, 5, 8, 9, 10];
+    walks_all(&rt, rt.alloc(), Uap::Cat065, &record, &ends);
 }

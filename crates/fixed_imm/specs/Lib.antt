@@ -1,0 +1,7 @@
+pub mod Values
+pub mod Bounds
+pub mod Mixing
+pub mod Prediction
+pub mod Correction
+pub mod Filter
+pub mod Aims

@@ -1,0 +1,19 @@
+//! The filter of one axis: an interacting multiple model estimator with two models of a constant
+//! velocity, in whole numbers.
+//!
+//! The form is that of Bar-Shalom, Li and Kirubarajan, "Estimation with Applications to Tracking
+//! and Navigation" (2001), 11.6.6. The constants, the bounds and the roundings are this project's
+//! own. Positions are in 1/64 m, velocities in 1/1024 m/s, times in 1/128 s. No call takes memory.
+#![tactic(auto)]
+
+mod aim;
+mod axis;
+mod correcting;
+mod mixing;
+mod motion;
+mod predicting;
+mod weighing;
+
+pub use aim::Aim;
+pub use axis::Axis;
+pub use motion::Motion;

@@ -1,0 +1,5 @@
+pub mod Order
+pub mod PlaneLaws
+pub mod PlotFields
+pub mod Table
+pub mod Terms

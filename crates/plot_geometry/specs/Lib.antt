@@ -1,0 +1,11 @@
+pub mod Bounds
+pub mod HalfAngles
+pub mod InPlane
+pub mod InRange
+pub mod Lengths
+pub mod Norms
+pub mod Plane
+pub mod PlanePlots
+pub mod PlotOrder
+pub mod TurnLaws
+pub mod Turns

@@ -1,0 +1,95 @@
+ghost use Rattle.std.specs.Prelude.{◌≡◌, ◌<◌, ◌≤◌, ◌^◌, ◌+◌, ◌*◌, ℤ, pos, neg_ℤ, unsigned_abs};
+ghost use Rattle.plot_geometry.specs.Turns.{half_angle, turned, sine_cosine, scaled, rotated, norm};
+
+use trk_base::round_div;
+
+// Cosine and sine of the angle of each bit k, which is 2 ^ k in 360/65,536 degrees, in 2 ^ -40.
+// Each entry below the last two is that of half the angle of the entry after it.
+const HALF_ANGLES: [(i64, i64); 16] = [
+    (1_099_511_622_722, 105_414_357),
+    (1_099_511_607_562, 210_828_713),
+    (1_099_511_546_923, 421_657_418),
+    (1_099_511_304_368, 843_314_774),
+    (1_099_510_334_147, 1_686_629_052),
+    (1_099_506_453_264, 3_373_254_135),
+    (1_099_490_929_780, 6_746_476_519),
+    (1_099_428_836_572, 13_492_699_036),
+    (1_099_180_475_430, 26_983_366_121),
+    (1_098_187_217_867, 53_950_478_471),
+    (1_094_217_178_760, 107_770_985_514),
+    (1_078_384_820_154, 214_504_077_524),
+    (1_015_816_288_660, 420_764_883_643),
+    (777_472_127_993, 777_472_127_995),
+    (0, 1_099_511_627_776),
+    (-1_099_511_627_776, 0),
+];
+
+pub(crate) fn half_angle(k: usize) -> (i64, i64)
+    requires { k < 16 }
+    ensures value { result ≡ half_angle k }
+    ensures cosine { unsigned_abs result.0 ≤ 2 ^ 40 }
+    ensures sine { unsigned_abs result.1 ≤ 2 ^ 40 }
+{
+    HALF_ANGLES[k]
+}
+
+// A sine and a cosine, turned on by the angle of bit k.
+fn turned(k: usize, s: i128, c: i128) -> (i128, i128)
+    requires index { k < 16 }
+    requires small { norm s c ≤ 2 ^ 81 }
+    ensures value { result ≡ turned (half_angle k) (s, c) }
+    ensures norm { norm result.0 result.1 ≤ norm s c + 2 ^ 44 }
+{
+    let (cosine, sine) = half_angle(k);
+    let cosine = cosine as i128;
+    let sine = sine as i128;
+    (
+        round_div(s * cosine + c * sine, 1 << 40),
+        round_div(c * cosine - s * sine, 1 << 40),
+    )
+}
+
+/// The sine and the cosine of an angle in 360/65,536 degrees, in units of 2^-40.
+pub(crate) fn sine_cosine(angle: u16) -> (i128, i128)
+    ensures value { result ≡ sine_cosine angle }
+    ensures sine { unsigned_abs result.0 ≤ 2 ^ 41 }
+    ensures cosine { unsigned_abs result.1 ≤ 2 ^ 41 }
+{
+    let mut s: i128 = 0;
+    let mut c: i128 = 1 << 40;
+    for k in (0..16).rev() {
+        if angle >> k & 1 == 1 {
+            (s, c) = turned(k, s, c);
+        }
+    }
+    (s, c)
+}
+
+/// A length, times a sine or a cosine in units of 2^-40.
+pub(crate) fn scaled(length: i64, sine: i128) -> i64
+    requires length { unsigned_abs length < 2 ^ 40 }
+    requires sine { unsigned_abs sine ≤ 2 ^ 41 }
+    ensures value { result ≡ scaled length sine }
+    ensures bound { unsigned_abs result ≤ 2 * unsigned_abs length }
+{
+    round_div(i128::from(length) * sine, 1 << 40) as i64
+}
+
+/// The point at the distance `r` in the direction of an angle in 360/65,536 degrees, clockwise
+/// from north: how far to the east, and how far to the north. A negative distance lies behind.
+///
+/// Sine and cosine are put together from those of the angle's bits, each made from twice its
+/// angle by the half-angle formulas, in whole numbers of 2^-40.
+pub fn rotate(angle: u16, r: i64) -> (i64, i64)
+    requires { unsigned_abs r < 2 ^ 40 }
+    ensures value { result ≡ rotated angle r }
+
+    // The four quarter turns are exact.
+    ensures north { angle ≡ 0 → result ≡ (pos 0, r) }
+    ensures east { angle ≡ 0x4000 → result ≡ (r, pos 0) }
+    ensures south { angle ≡ 0x8000 → result ≡ (pos 0, neg_ℤ r) }
+    ensures west { angle ≡ 0xC000 → result ≡ (neg_ℤ r, pos 0) }
+{
+    let (sine, cosine) = sine_cosine(angle);
+    (scaled(r, sine), scaled(r, cosine))
+}

@@ -1,0 +1,10 @@
+pub mod Lists
+pub mod Keeps
+pub mod Turning
+pub mod Seen
+pub mod Opening
+pub mod Splitting
+pub mod Joining
+pub mod Closing
+pub mod Dealing
+pub mod Gathering

@@ -1,0 +1,9 @@
+use Rattle.std.proofs.Common.{◌≡◌}
+use Rattle.turn_lock.specs.Turns.{IsTurnOf}
+use Rattle.turn_lock.proofs.tests.publish_all.Given as goal
+
+abbrev pub invariant-loop-number : goal.invariant-loop-number
+invariant-loop-number g l = record {
+  own : IsTurnOf l.lock l.head;
+  same : l.head.number ≡ 0;
+}

@@ -1,0 +1,15 @@
+//! A lock whose turns are drawn as tickets, round a value that stands for one history of events.
+//!
+//! `docs/CONCURRENCY.md` says in plain words what a turn does, step by step, and what is proved.
+#![tactic(auto)]
+
+mod board;
+mod lock;
+mod logged;
+mod plays;
+mod rule;
+#[cfg(test)]
+mod tests;
+
+pub use lock::{MAX_SEATS, Turn, TurnLock};
+pub use logged::Logged;
