@@ -1,5 +1,6 @@
 pub mod Builds
 pub mod SomeReading
+pub mod SomeReplay
 pub mod Octets
 pub mod Outcomes
 pub mod Outputs

@@ -171,17 +171,28 @@ not_built_stops : (item : Item) (items : List Item) → IsNotBuilt item → Stop
 not_built_stops (tick time) items h = h
 not_built_stops (datagram feed octets) items h = h
 
+-- the octets up to an item, and those behind it
+up_to : (octets items next : List ℕ) (start : ℕ) (item : Item) (front rest : List ℕ) → Seen octets start items → items ≡ front ++ rest → rest ≡ spelled item ++ next → octets ≡ (header start ++ (front ++ spelled item)) ++ (next ++ drop limit octets)
+up_to octets items next start item front rest seen parts e =
+    let split : items ≡ (front ++ spelled item) ++ next = parts ∙ ap (λ t. front ++ t) e ∙ sym (append_assoc front (spelled item) next) in
+    let whole : octets ≡ (header start ++ items) ++ drop limit octets = sym (take-append-drop limit octets) ∙ ap (λ t. t ++ drop limit octets) seen.whole in
+    let read : header start ++ items ≡ (header start ++ (front ++ spelled item)) ++ next = ap (λ t. header start ++ t) split ∙ sym (append_assoc (header start) (front ++ spelled item) next) in
+    whole ∙ ap (λ t. t ++ drop limit octets) read ∙ append_assoc (header start ++ (front ++ spelled item)) next (drop limit octets)
+
+-- items behind others
+items_behind : (items next rest tail : List ℕ) (front others : List Item) (item : Item) → items ≡ flat_map spelled front ++ rest → rest ≡ spelled item ++ next → next ≡ flat_map spelled others ++ tail → items ≡ flat_map spelled (front ++ item ∷ others) ++ tail
+items_behind items next rest tail front others item parts e f =
+    let read : flat_map spelled (front ++ item ∷ others) ≡ flat_map spelled front ++ (spelled item ++ flat_map spelled others) = flat_map-append spelled front (item ∷ others) in
+    let behind_it : rest ≡ (spelled item ++ flat_map spelled others) ++ tail = e ∙ ap (λ t. spelled item ++ t) f ∙ sym (append_assoc (spelled item) (flat_map spelled others) tail) in
+    parts ∙ ap (λ t. flat_map spelled front ++ t) behind_it ∙ sym (append_assoc (flat_map spelled front) (spelled item ++ flat_map spelled others) tail) ∙ ap (λ t. t ++ tail) (sym read)
+
 run_not_built : (octets items : List ℕ) (start : ℕ) (built : List Built) (rest out : List ℕ) (item : Item) (next : List ℕ) → IsBytes octets → Seen octets start items → AllByRecursion IsBuiltItem built → items ≡ flat_map spelled (map item_as built) ++ rest → IsOutput start built out → IsItem item → IsNotBuilt item → rest ≡ spelled item ++ next → Replays octets out (NotBuilt (length built))
 run_not_built octets items start built rest out item next bytes seen fit parts output fits none e =
-    let all : octets ≡ header start ++ (items ++ drop limit octets) = sym (take-append-drop limit octets) ∙ ap (λ t. t ++ drop limit octets) seen.whole ∙ append_assoc (header start) items (drop limit octets) in
-    let whole_items : octets ≡ (header start ++ (flat_map spelled (map item_as built) ++ spelled item)) ++ (next ++ drop limit octets) = all ∙ ap (λ t. header start ++ (t ++ drop limit octets)) (parts ∙ ap (λ t. flat_map spelled (map item_as built) ++ t) e ∙ sym (append_assoc (flat_map spelled (map item_as built)) (spelled item) next)) ∙ ap (λ t. header start ++ t) (append_assoc (flat_map spelled (map item_as built) ++ spelled item) next (drop limit octets)) ∙ sym (append_assoc (header start) (flat_map spelled (map item_as built) ++ spelled item) (next ++ drop limit octets)) in
-    let behind_bytes = rest_bytes octets (header start ++ (flat_map spelled (map item_as built) ++ spelled item)) (next ++ drop limit octets) bytes whole_items in
-    let next_bytes = front_bytes next (drop limit octets) behind_bytes in
-    let others = items_of next next_bytes in
+    let front = flat_map spelled (map item_as built) in
+    let behind_bytes = rest_bytes octets (header start ++ (front ++ spelled item)) (next ++ drop limit octets) bytes (up_to octets items next start item front rest seen parts e) in
+    let others = items_of next (front_bytes next (drop limit octets) behind_bytes) in
     let read = map item_as built ++ item ∷ others.items in
-    let octets_read : flat_map spelled read ≡ flat_map spelled (map item_as built) ++ (spelled item ++ flat_map spelled others.items) = flat_map-append spelled (map item_as built) (item ∷ others.items) in
-    let seen_all : take limit octets ≡ recording start read ++ others.rest =
-    seen.whole ∙ ap (λ t. header start ++ t) (parts ∙ ap (λ t. flat_map spelled (map item_as built) ++ t) (e ∙ ap (λ t. spelled item ++ t) others.whole ∙ sym (append_assoc (spelled item) (flat_map spelled others.items) others.rest)) ∙ sym (append_assoc (flat_map spelled (map item_as built)) (spelled item ++ flat_map spelled others.items) others.rest) ∙ ap (λ t. t ++ others.rest) (sym octets_read)) ∙ sym (append_assoc (header start) (flat_map spelled read) others.rest) in
+    let whole : items ≡ flat_map spelled read ++ others.rest = items_behind items next rest others.rest (map item_as built) others.items item parts e others.whole in
     inl (record {
       start = start;
       items = read;
@@ -191,7 +202,7 @@ run_not_built octets items start built rest out item next bytes seen fit parts o
         items_fit = all_append IsItem (map item_as built) (item ∷ others.items) (built_items_fit built fit) (fits, others.fit);
         rest = others.rest;
         ending = others.ending;
-        whole = seen_all;
+        whole = seen.whole ∙ ap (λ t. header start ++ t) whole ∙ sym (append_assoc (header start) (flat_map spelled read) others.rest);
         ends = others.ends;
         fault_is = refl;
       });

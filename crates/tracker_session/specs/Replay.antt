@@ -87,3 +87,8 @@ pub record RunsNot (octets output : List ℕ) (status : Status) : Type 0 where
 -- The replay of these octets gives this output and this answer.
 abbrev pub Replays : List ℕ → List ℕ → Status → Type 0
 Replays octets output status = Runs octets output status ⊎ RunsNot octets output status
+
+pub record HasReplay (octets : List ℕ) : Type 0 where
+  pub output : List ℕ
+  pub status : Status
+  pub replays : Replays octets output status

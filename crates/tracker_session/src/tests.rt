@@ -21,25 +21,27 @@ const PICTURE: [u8; 19] = [
 /// The place of the high octet of its azimuth.
 const AZIMUTH: usize = 25;
 
-fn words(alloc: Global, texts: &[&str]) -> Result<Vec<String>, Fail> {
+/// Runs the words over a host with this input, room for so many octets of output, and these calls
+/// that fail.
+fn run(
+    alloc: Global,
+    texts: &[&str],
+    input: &[u8],
+    room: usize,
+    fails: &[u64],
+) -> Result<(Status, MemHost), Fail> {
     let mut words = Vec::new(alloc);
     for text in texts {
         words.push(String::from_str(alloc, text)?)?;
     }
-    Ok(words)
+    let left = vec![in alloc; (Place::Input, Vec::from_slice(alloc, input)?)]?;
+    let rooms = vec![in alloc; (Place::Output, room)]?;
+    let mut host = MemHost::new(alloc, left, rooms, Vec::from_slice(alloc, fails)?)?;
+    let status = run_batch(alloc, &words, &mut host);
+    Ok((status, host))
 }
 
-/// A host with this input, room for so many octets of output, and these calls that fail.
-fn host(alloc: Global, input: &[u8], room: usize, fails: &[u64]) -> Result<MemHost, Fail> {
-    let mut left = Vec::new(alloc);
-    left.push((Place::Input, Vec::from_slice(alloc, input)?))?;
-    let mut rooms = Vec::new(alloc);
-    rooms.push((Place::Output, room))?;
-    let fails = Vec::from_slice(alloc, fails)?;
-    Ok(MemHost::new(alloc, left, rooms, fails)?)
-}
-
-/// Replays the input over a host in memory, and compares the answer and what Output got.
+/// Replays the input, and compares the answer and what Output got.
 fn compare(
     rt: &impl Abort,
     alloc: Global,
@@ -48,23 +50,14 @@ fn compare(
     status: Status,
     output: &[u8],
 ) -> Result<(), Fail> {
-    let words = words(
-        alloc,
-        &["replay", "a.toml", "in.mrt", "out.cat062", "out.prices"],
-    )?;
-    let mut host = host(alloc, input, 1000, fails)?;
-    let answer = run_batch(alloc, &words, &mut host);
+    let words = ["replay", "a.toml", "in.mrt", "out.cat062", "out.prices"];
+    let (answer, host) = run(alloc, &words, input, 1000, fails)?;
     assert_eq!(rt; answer, status);
     assert_eq!(rt; host.got(Place::Output), output);
     Ok(())
 }
 
-#[test]
-fn one_plot_north(rt: HostRuntime) -> Result<(), Fail> {
-    compare(&rt, rt.alloc(), &ONE_PLOT, &[], Status::Done, &PICTURE)
-}
-
-/// The four quadrants: what is changed of the picture are X and Y.
+/// What is changed of the picture are X and Y.
 #[test]
 fn quadrants(rt: HostRuntime) -> Result<(), Fail> {
     let positions: [(u8, [u8; 6]); 4] = [
@@ -98,7 +91,7 @@ fn old_and_empty_ticks(rt: HostRuntime) -> Result<(), Fail> {
 
 /// The octets behind a picture, and the answer that they give.
 #[test]
-fn faults_behind_a_picture(rt: HostRuntime) -> Result<(), Fail> {
+fn behind_a_picture(rt: HostRuntime) -> Result<(), Fail> {
     let alloc = rt.alloc();
     let endings: [(&[u8], Status); 6] = [
         (&[], Status::Done),
@@ -116,26 +109,33 @@ fn faults_behind_a_picture(rt: HostRuntime) -> Result<(), Fail> {
     Ok(())
 }
 
+/// A front of the recording, and the answer that it gives.
 #[test]
-fn faults_before_a_picture(rt: HostRuntime) -> Result<(), Fail> {
-    let alloc = rt.alloc();
-    for (octets, offset) in [(4, 4), (8, 4), (10, 9), (26, 9), (28, 27), (32, 27)] {
-        compare(
-            &rt,
-            alloc,
-            &ONE_PLOT[..octets],
-            &[],
-            Status::Input { offset },
-            &[],
-        )?;
+fn cut_short(rt: HostRuntime) -> Result<(), Fail> {
+    let fronts: [(usize, Status); 9] = [
+        (0, Status::NotBuilt { item: 0 }),
+        (3, Status::NotBuilt { item: 0 }),
+        (4, Status::Input { offset: 4 }),
+        (8, Status::Input { offset: 4 }),
+        (9, Status::Done),
+        (10, Status::Input { offset: 9 }),
+        (26, Status::Input { offset: 9 }),
+        (28, Status::Input { offset: 27 }),
+        (32, Status::Input { offset: 27 }),
+    ];
+    for (octets, status) in fronts {
+        assert!(rt; octets < 33);
+        compare(&rt, rt.alloc(), &ONE_PLOT[..octets], &[], status, &[])?;
     }
     Ok(())
 }
 
-/// Each changes one octet of the recording.
+/// Each changes one octet of the recording: its mark, the datagram's category and length, and the
+/// report's FSPEC, system, time, descriptor and azimuth.
 #[test]
 fn not_built(rt: HostRuntime) -> Result<(), Fail> {
-    for (place, octet) in [
+    let changes: [(usize, u8); 12] = [
+        (3, 0x32),
         (13, 0x22),
         (15, 0x0D),
         (16, 0xF8),
@@ -147,54 +147,14 @@ fn not_built(rt: HostRuntime) -> Result<(), Fail> {
         (22, 0xA1),
         (AZIMUTH, 0x41),
         (AZIMUTH + 1, 0x01),
-    ] {
+    ];
+    for (place, octet) in changes {
+        assert!(rt; place < 33);
         let mut input = ONE_PLOT;
         input[place] = octet;
         let status = Status::NotBuilt { item: 0 };
         compare(&rt, rt.alloc(), &input, &[], status, &[])?;
     }
-    Ok(())
-}
-
-#[test]
-fn no_recording_is_not_built(rt: HostRuntime) -> Result<(), Fail> {
-    let status = Status::NotBuilt { item: 0 };
-    compare(&rt, rt.alloc(), &ONE_PLOT[13..], &[], status, &[])?;
-    compare(&rt, rt.alloc(), &ONE_PLOT[..3], &[], status, &[])?;
-    compare(&rt, rt.alloc(), &[], &[], status, &[])
-}
-
-/// A block holds 87 records of 16 octets.
-#[test]
-fn two_blocks(rt: HostRuntime) -> Result<(), Fail> {
-    let alloc = rt.alloc();
-    let mut input = Vec::from_slice(alloc, &ONE_PLOT[..9])?;
-    for _ in 0..88 {
-        input.extend_from_slice(&ONE_PLOT[9..27])?;
-    }
-    input.extend_from_slice(&ONE_PLOT[27..])?;
-    let words = words(alloc, &["replay", "a", "b", "c", "d"])?;
-    let mut host = host(alloc, &input, 2000, &[])?;
-    let answer = run_batch(alloc, &words, &mut host);
-    assert_eq!(rt; answer, Status::Done);
-    let got = host.got(Place::Output);
-    assert_eq!(rt; got.len(), 1414);
-    assert_eq!(rt; &got[..3], [0x3E, 0x05, 0x73].as_slice());
-    let mut last = PICTURE;
-    last[17] = 88;
-    assert_eq!(rt; &got[1395..], last.as_slice());
-    Ok(())
-}
-
-/// Output has room for a front of the picture.
-#[test]
-fn writing_breaks_off(rt: HostRuntime) -> Result<(), Fail> {
-    let alloc = rt.alloc();
-    let words = words(alloc, &["replay", "a", "b", "c", "d"])?;
-    let mut host = host(alloc, &ONE_PLOT, 10, &[])?;
-    let answer = run_batch(alloc, &words, &mut host);
-    assert_eq!(rt; answer, Status::Write(Spot::Output));
-    assert_eq!(rt; host.got(Place::Output), &PICTURE[..10]);
     Ok(())
 }
 
@@ -210,12 +170,47 @@ fn faults_are_told(rt: HostRuntime) -> Result<(), Fail> {
     Ok(())
 }
 
+/// A write takes the front that there is room for, and the next fails.
+#[test]
+fn writing_breaks_off(rt: HostRuntime) -> Result<(), Fail> {
+    let words = ["replay", "a", "b", "c", "d"];
+    let (answer, host) = run(rt.alloc(), &words, &ONE_PLOT, 10, &[])?;
+    assert_eq!(rt; answer, Status::Write(Spot::Output));
+    assert_eq!(rt; host.got(Place::Output), &PICTURE[..10]);
+    Ok(())
+}
+
+/// A recording of as many plots as the first, and its tick.
+fn plots(alloc: Global, count: u8) -> Result<Vec<u8>, Fail> {
+    let mut input = Vec::from_slice(alloc, &ONE_PLOT[..9])?;
+    for _ in 0..count {
+        input.extend_from_slice(&ONE_PLOT[9..27])?;
+    }
+    input.extend_from_slice(&ONE_PLOT[27..])?;
+    Ok(input)
+}
+
+/// A block holds 87 records of 16 octets.
+#[test]
+fn two_blocks(rt: HostRuntime) -> Result<(), Fail> {
+    let alloc = rt.alloc();
+    let input = plots(alloc, 88)?;
+    let words = ["replay", "a", "b", "c", "d"];
+    let (answer, host) = run(alloc, &words, &input, 2000, &[])?;
+    assert_eq!(rt; answer, Status::Done);
+    let got = host.got(Place::Output);
+    assert_eq!(rt; got.len(), 1414);
+    assert!(rt; got.starts_with(&[0x3E, 0x05, 0x73]));
+    let mut last = PICTURE;
+    last[17] = 88;
+    assert!(rt; got.ends_with(&last));
+    Ok(())
+}
+
 #[test]
 fn places_are_bound_to_their_words(rt: HostRuntime) -> Result<(), Fail> {
-    let alloc = rt.alloc();
-    let words = words(alloc, &["replay", "a", "b", "c", "d"])?;
-    let mut host = host(alloc, &ONE_PLOT, 1000, &[])?;
-    let answer = run_batch(alloc, &words, &mut host);
+    let words = ["replay", "a", "b", "c", "d"];
+    let (answer, host) = run(rt.alloc(), &words, &ONE_PLOT, 1000, &[])?;
     assert_eq!(rt; answer, Status::Done);
     assert_eq!(rt; host.bound(Place::Input), Some((Way::Read, "b")));
     assert_eq!(rt; host.bound(Place::Output), Some((Way::Write, "c")));
@@ -226,7 +221,6 @@ fn places_are_bound_to_their_words(rt: HostRuntime) -> Result<(), Fail> {
 
 #[test]
 fn other_words_are_refused(rt: HostRuntime) -> Result<(), Fail> {
-    let alloc = rt.alloc();
     let lines: [&[&str]; 6] = [
         &[],
         &["replay"],
@@ -236,27 +230,9 @@ fn other_words_are_refused(rt: HostRuntime) -> Result<(), Fail> {
         &["serve", "a", "b", "c", "d"],
     ];
     for line in lines {
-        let words = words(alloc, line)?;
-        let mut host = host(alloc, &ONE_PLOT, 1000, &[])?;
-        let answer = run_batch(alloc, &words, &mut host);
+        let (answer, host) = run(rt.alloc(), line, &ONE_PLOT, 1000, &[])?;
         assert_eq!(rt; answer, Status::Usage, "at {line:?}");
         assert_eq!(rt; host.bound(Place::Input), None);
     }
     Ok(())
-}
-
-#[test]
-fn codes(rt: HostRuntime) {
-    let codes = [
-        (Status::Done, 0),
-        (Status::Usage, 1),
-        (Status::Input { offset: 7 }, 3),
-        (Status::Read(Spot::Input), 4),
-        (Status::Write(Spot::Output), 5),
-        (Status::Memory, 6),
-        (Status::NotBuilt { item: 7 }, 9),
-    ];
-    for (status, code) in codes {
-        assert_eq!(rt; status.code(), code);
-    }
 }
