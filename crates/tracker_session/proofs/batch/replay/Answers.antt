@@ -1,10 +1,7 @@
-use Rattle.std.proofs.Common.{rules, ◌≡◌, ◌∙◌, ap, sym, refl, subst, List, ℕ, length, take, arith, ◌<◌, ◌+◌}
-use Rattle.io_traits.specs.declared.host.Place.TheVariants as places
+use Rattle.std.proofs.Common.{rules, refl, length, take, arith, ◌+◌}
 use Rattle.std.specs.Prelude.{nat_lt}
-use Rattle.tracker_session.specs.Answers.{Answers, Replayed}
 use Rattle.tracker_session.specs.Recording.{limit}
 use Rattle.tracker_session.specs.Steps.{status_at}
-use Rattle.tracker_session.proofs.Octets.{IsBytes}
 use Rattle.tracker_session.proofs.Outcomes.{ended_answers, front_none, no_recording, no_start, replayed_front, seen_of}
 use Rattle.tracker_session.proofs.Runs.{ended_run, stopped_front}
 use Rattle.tracker_session.proofs.batch.replay.Goals as goal

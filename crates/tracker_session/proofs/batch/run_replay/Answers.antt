@@ -1,4 +1,4 @@
-use Rattle.std.proofs.Common.{◌∙◌, ◌≡◌, List, ℕ, subst}
+use Rattle.std.proofs.Common.{◌∙◌, List, ℕ, subst}
 use Rattle.io_traits.specs.declared.host.Place.TheVariants as places
 use Rattle.tracker_session.specs.Answers.{Answers, ReplayedFront}
 use Rattle.tracker_session.proofs.Outcomes.{replayed_all, front_all, front_none, done_so, faultless}
