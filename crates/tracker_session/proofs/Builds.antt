@@ -1,11 +1,11 @@
 -- Items that are built are built in one way.
-use Rattle.std.proofs.Common.{◌≡◌, ◌∙◌, ap, sym, refl, subst, ℕ, ◌+◌, ◌/◌, ◌%◌, ◌<◌, ◌≤◌, List, [], ◌∷◌, ◌++◌, length, take, drop, arith, append_assoc}
+use Rattle.std.proofs.Common.{◌≡◌, ◌∙◌, ap, sym, refl, subst, ℕ, ◌+◌, ◌/◌, ◌%◌, List, [], ◌∷◌, ◌++◌, length, take, drop, arith, append_assoc}
 use Rattle.std.specs.Prelude.{map}
 use Rattle.std.specs.List.{flat_map, AllByRecursion}
 use Rattle.tracker_session.specs.declared.report.Bearing.{Bearing}
 use Rattle.tracker_session.specs.declared.report.Bearing.TheVariants.{North, East, South, West}
 use Rattle.tracker_session.specs.Datagram.{Report, IsReport, IsBuilt, high_octet, record_of, datagram_of}
-use Rattle.tracker_session.specs.Recording.{Item, datagram, tick}
+use Rattle.tracker_session.specs.Recording.{Item}
 use Rattle.tracker_session.specs.Replay.{Built, reports, tick_at, item_as, IsBuiltItem, StopsAt}
 use Rattle.tracker_session.proofs.Readings.{datagrams_same, ticks_same, split_same}
 

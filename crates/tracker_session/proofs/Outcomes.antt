@@ -1,5 +1,5 @@
 -- From what was read of Input to what Input had, and from step to step.
-use Rattle.std.proofs.Common.{◌≡◌, ◌≢◌, ◌∙◌, ap, sym, refl, subst, inl, inr, ℕ, ◌+◌, ◌-◌, ◌<◌, ◌≤◌, ◌^◌, ◌⊎◌, Bool, true, false, List, [], ◌∷◌, ◌++◌, length, take, drop, min, arith, length-append, append-nil}
+use Rattle.std.proofs.Common.{◌≡◌, ◌≢◌, ◌∙◌, ap, sym, refl, subst, inl, inr, ℕ, ◌<◌, ◌≤◌, ◌^◌, ◌⊎◌, Bool, true, false, List, [], ◌∷◌, ◌++◌, length, take, drop, min, arith, length-append, append-nil}
 use Rattle.std.specs.Prelude.{Option, Some, None, nat_lt}
 use Rattle.std.proofs.lemmas.Bool.{cases_lt, lt-ltb, ltb-false}
 use Rattle.std.proofs.lemmas.List.{take_all, take-append-drop, take-append-le}
@@ -16,9 +16,9 @@ use Rattle.tracker_session.specs.declared.status.Spot.TheVariants as spots
 use Rattle.tracker_session.specs.declared.status.Status.{Status}
 use Rattle.tracker_session.specs.declared.status.Status.TheVariants.{Done, Usage, Input, Read, Write, Memory, NotBuilt}
 use Rattle.tracker_session.specs.Answers.{Answers, IsAnswer, Replayed, ReplayedFront}
-use Rattle.tracker_session.specs.Places.{AppendsFront, InputHas, InputRead, InputFailed, IsFaultless, OutputBound, OutputFailed, OutputGotFront, UsesInput, UsesOutput}
-use Rattle.tracker_session.specs.Recording.{Item, limit, mark, header, recording, Ending, nothing, other, cut, fault_of, ReadsSo, HasNoStart, IsReading, IsNoRecording}
-use Rattle.tracker_session.specs.Replay.{Runs, RunsNot, Replays, answer_of}
+use Rattle.tracker_session.specs.Places.{AppendsFront, InputHas, InputRead, InputFailed, IsFaultless, OutputBound, OutputFailed, OutputGotFront, StopsWriting, UsesInput, UsesOutput}
+use Rattle.tracker_session.specs.Recording.{Item, limit, mark, header, recording, Ending, nothing, other, cut, fault_of, HasNoStart, IsReading, IsNoRecording}
+use Rattle.tracker_session.specs.Replay.{Replays, answer_of}
 use Rattle.tracker_session.specs.Steps.{status_at}
 use Rattle.tracker_session.proofs.Outputs.{output_none}
 use Rattle.tracker_session.proofs.Runs.{Seen, one_replay, front_got}
@@ -92,9 +92,9 @@ read_alike octets name all old new r has =
     ]
 
 answered : (octets : List ℕ) (s : Status) (old new : HostState) → IsAnswer s → Answers octets s old new → Replayed octets s old new
-answered octets Done old new is h = h.0
-answered octets (Input offset) old new is h = h
-answered octets (NotBuilt item) old new is h = h
+answered octets Done old new is h = h.replayed
+answered octets (Input offset) old new is h = h.replayed
+answered octets (NotBuilt item) old new is h = h.replayed
 answered octets Usage old new is h = absurd is
 answered octets (Read spot) old new is h = absurd is
 answered octets (Write spot) old new is h = absurd is
@@ -146,9 +146,9 @@ status_answers (ends.Fault left CutShort) size true = tt
 status_answers (ends.NotBuilt number) size long = tt
 
 answers_of : (octets : List ℕ) (s : Status) (old new : HostState) → IsAnswer s → Replayed octets s old new → new.faults places.Output ≡ old.faults places.Output → Answers octets s old new
-answers_of octets Done old new is h faults = (h, faults)
-answers_of octets (Input offset) old new is h faults = h
-answers_of octets (NotBuilt item) old new is h faults = h
+answers_of octets Done old new is h faults = record { replayed = h; faults = faults }
+answers_of octets (Input offset) old new is h faults = record { replayed = h; faults = faults }
+answers_of octets (NotBuilt item) old new is h faults = record { replayed = h; faults = faults }
 answers_of octets Usage old new is h faults = absurd is
 answers_of octets (Read spot) old new is h faults = absurd is
 answers_of octets (Write spot) old new is h faults = absurd is
@@ -170,39 +170,15 @@ pub no_start : (octets : List ℕ) (host : HostState) → HasNoStart octets 0 []
 no_start octets host h =
     ([], inl (record { start = 0; items = []; fault = Some 4; reading = inr h; built = []; others = []; parts = refl; built_fit = tt; stops = tt; output_is = output_none 0; status_is = refl }), Appends_nothing (host.got places.Output))
 
--- a replay that is done read no more than the limit
-whole_fault : (e : Ending) (long : Bool) (place : ℕ) → None ≡ fault_of e long place → long ≡ false
-whole_fault nothing false place h = refl
-whole_fault nothing true place h = absurd cc
-whole_fault other long place h = absurd cc
-whole_fault cut false place h = refl
-whole_fault cut true place h = absurd cc
-
-done_fault : (fault : Option ℕ) (others : List Item) (n : ℕ) → Done ≡ answer_of fault others n → None ≡ fault
-done_fault None [] n e = refl
-done_fault (Some offset) [] n e = absurd cc
-done_fault None (i ∷ is) n e = absurd cc
-done_fault (Some offset) (i ∷ is) n e = absurd cc
-
-done_short : (octets output : List ℕ) → Replays octets output Done → length octets ≤ limit
-done_short octets output (inr h) = absurd (no h.status_is)
-  where
-    no : Done ≡ NotBuilt 0 → ⊥
-    no e = cc
-done_short octets output (inl h) = go h.reading (done_fault h.fault h.others (length h.built) h.status_is)
-  where
-    go : IsReading octets h.start h.items h.fault → None ≡ h.fault → length octets ≤ limit
-    go (inl r) e = ltb-false limit (length octets) (whole_fault r.ending (nat_lt limit (length octets)) (length (recording h.start h.items)) (e ∙ r.fault_is))
-    go (inr r) e = omega (arith, ap length r.whole, r.short)
-
-pub record DoneSo (octets : List ℕ) (old new : HostState) : Type 0 where
-  pub short : length octets ≤ limit
-  pub faults : new.faults places.Output ≡ old.faults places.Output
-
-pub done_so : (octets : List ℕ) (s : Status) (old new : HostState) → s ≡ Done → Answers octets s old new → DoneSo octets old new
-done_so octets s old new e h =
-    let done = subst (λ (t : Status). Answers octets t old new) e h in
-    record { short = done_short octets done.0.0 done.0.1; faults = done.1 }
+-- an answer leaves the count of Output as it was
+answer_faults : (octets : List ℕ) (s : Status) (old new : HostState) → IsAnswer s → Answers octets s old new → new.faults places.Output ≡ old.faults places.Output
+answer_faults octets Done old new is h = h.faults
+answer_faults octets (Input offset) old new is h = h.faults
+answer_faults octets (NotBuilt item) old new is h = h.faults
+answer_faults octets Usage old new is h = absurd is
+answer_faults octets (Read spot) old new is h = absurd is
+answer_faults octets (Write spot) old new is h = absurd is
+answer_faults octets Memory old new is h = absurd is
 
 input_output : places.Input ≢ places.Output
 input_output e = cc
@@ -215,18 +191,30 @@ kept_faults : (p : Place) → p ≢ places.Input → p ≢ places.Output → (a 
 kept_faults p not_input not_output a r o z first second third = third.faults p not_output ∙ second.others.faults p not_output ∙ first.others.faults p not_input
 
 -- the steps of a replay that is done, one after the other
-pub faultless : (input output octets : List ℕ) (a r o z : HostState) → InputRead octets input a r → UsesInput a r → OutputBound output r o → UsesOutput r o → WritesOnly places.Output o z → DoneSo octets o z → IsFaultless input output a z
-faultless input output octets a r o z read first bound second third done =
+pub faultless : (input output octets : List ℕ) (s : Status) (a r o z : HostState) → InputRead octets input a r → UsesInput a r → OutputBound output r o → UsesOutput r o → WritesOnly places.Output o z → IsAnswer s → Answers octets s o z → IsFaultless input output a z
+faultless input output octets s a r o z read first bound second third is answer =
     record {
       input_bound = third.bound places.Input ∙ second.others.bound places.Input input_output ∙ read.bound;
       output_bound = third.bound places.Output ∙ bound.bound;
-      at_end = subst IsEmpty (sym (third.left places.Input ∙ second.left places.Input)) (read.whole done.short);
       faults = all;
     }
   where
     all : (p : Place) → z.faults p ≡ a.faults p
     all places.Input = third.faults places.Input input_output ∙ second.others.faults places.Input input_output ∙ read.faults
-    all places.Output = done.faults ∙ bound.faults ∙ first.others.faults places.Output output_input
+    all places.Output = answer_faults octets s o z is answer ∙ bound.faults ∙ first.others.faults places.Output output_input
     all places.Settings = kept_faults places.Settings (λ e. cc) (λ e. cc) a r o z first second third
     all places.Prices = kept_faults places.Prices (λ e. cc) (λ e. cc) a r o z first second third
     all places.Screen = kept_faults places.Screen (λ e. cc) (λ e. cc) a r o z first second third
+
+-- what Input had was read to its end, unless it passes the limit
+pub whole_read : (octets input all : List ℕ) (a r o z : HostState) → InputRead octets input a r → UsesOutput r o → WritesOnly places.Output o z → InputHas a all → length all ≤ limit → IsEmpty (z.left places.Input)
+whole_read octets input all a r o z read second third has short =
+    let more = consumed (a.left places.Input) (r.left places.Input) octets all read.taken has in
+    subst IsEmpty (sym (third.left places.Input ∙ second.left places.Input)) (read.whole (omega (arith, short, ap length more.1, length-append octets more.0)))
+
+-- no answer of a replay or of Output is that reading failed
+pub replay_reads : (octets : List ℕ) (s : Status) (spot : Spot) (old new : HostState) → Answers octets s old new → s ≡ Read spot → ⊥
+replay_reads octets s spot old new h e = subst (λ (t : Status). Answers octets t old new) e h
+
+pub opening_reads : (s : Status) (spot : Spot) (old new : HostState) → StopsWriting s old new → s ≡ Read spot → ⊥
+opening_reads s spot old new h e = subst (λ (t : Status). StopsWriting t old new) e h

@@ -1,6 +1,6 @@
 -- A replay has one output and one answer, and a run that stops has made a front of it.
-use Rattle.std.proofs.Common.{◌≡◌, ◌≢◌, ◌∙◌, ap, sym, refl, subst, inl, inr, ℕ, ◌+◌, ◌-◌, ◌<◌, ◌≤◌, ◌^◌, ◌⊎◌, Bool, true, false, List, [], ◌∷◌, ◌++◌, length, take, drop, arith, append_assoc, append-nil, length-append}
-use Rattle.std.specs.Prelude.{map, Option, Some, None, nat_lt}
+use Rattle.std.proofs.Common.{◌≡◌, ◌∙◌, ap, sym, refl, subst, inl, inr, ℕ, ◌+◌, ◌-◌, ◌<◌, ◌^◌, Bool, true, false, List, [], ◌∷◌, ◌++◌, length, take, drop, arith, append_assoc, append-nil, length-append}
+use Rattle.std.specs.Prelude.{map, Option, nat_lt}
 use Rattle.std.specs.List.{flat_map, AllByRecursion}
 use Rattle.std.proofs.lemmas.List.{take-append-drop, take-append-le, take_at, drop_at, take_all}
 use Rattle.std.proofs.lemmas.List.Concat.{flat_map-append}
@@ -12,15 +12,14 @@ use Rattle.io_traits.specs.declared.host.Place.TheVariants as places
 use Rattle.io_traits.proofs.Known.{Appends_trans}
 use Rattle.tracker_session.specs.declared.batch.End.{End}
 use Rattle.tracker_session.specs.declared.batch.End.TheVariants as ends
-use Rattle.tracker_session.specs.declared.recording.ItemFault.{ItemFault}
 use Rattle.tracker_session.specs.declared.recording.ItemFault.TheVariants.{FirstOctet, CutShort}
 use Rattle.tracker_session.specs.declared.status.Status.{Status}
 use Rattle.tracker_session.specs.declared.status.Status.TheVariants.{Done, Input, NotBuilt}
 use Rattle.tracker_session.specs.Answers.{Replayed, ReplayedFront}
-use Rattle.tracker_session.specs.Places.{OutputGot, OutputGotFront, AppendsFront}
-use Rattle.tracker_session.specs.Recording.{Item, datagram, tick, IsItem, spelled, limit, mark, header, recording, Ending, nothing, other, cut, EndsSo, fault_of, ReadsSo, HasNoStart, IsReading, IsNoRecording}
-use Rattle.tracker_session.specs.Replay.{Built, reports, tick_at, item_as, IsBuiltItem, IsOutput, Gives, StopsAt, answer_of, Runs, RunsNot, Replays}
-use Rattle.tracker_session.specs.Steps.{HasTaken, EndsAs, Ends, BrokeOff, StoppedBehind, Stopped, IsNotBuilt, status_at}
+use Rattle.tracker_session.specs.Places.{OutputGot, OutputGotFront}
+use Rattle.tracker_session.specs.Recording.{Item, datagram, tick, IsItem, spelled, limit, mark, header, recording, Ending, nothing, other, cut, EndsSo, fault_of, IsReading, IsNoRecording}
+use Rattle.tracker_session.specs.Replay.{Built, reports, tick_at, item_as, IsBuiltItem, IsOutput, Gives, StopsAt, answer_of, Runs, Replays}
+use Rattle.tracker_session.specs.Steps.{HasTaken, EndsAs, Ends, Stopped, IsNotBuilt, status_at}
 use Rattle.tracker_session.proofs.Builds.{built_all, built_front}
 use Rattle.tracker_session.proofs.Octets.{IsBytes, items_of, rest_bytes, front_bytes}
 use Rattle.tracker_session.proofs.Outputs.{GoesOn, outputs_same, output_front, output_push}

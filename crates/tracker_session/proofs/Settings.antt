@@ -1,11 +1,11 @@
 -- How records are set out in blocks one after the other.
-use Rattle.std.proofs.Common.{◌≡◌, ◌∙◌, ap, sym, refl, inl, inr, ℕ, ◌+◌, ◌<◌, ◌≤◌, ◌⊎◌, List, [], ◌∷◌, ◌++◌, length, arith, append_assoc, append-nil, length-append}
+use Rattle.std.proofs.Common.{◌≡◌, ◌∙◌, ap, sym, inl, inr, ℕ, ◌+◌, ◌<◌, ◌≤◌, List, [], ◌∷◌, ◌++◌, length, arith, append_assoc, append-nil, length-append}
 use Rattle.std.specs.List.{flat_map, concat}
 use Rattle.std.proofs.lemmas.List.Folds.{concat-append}
 use Rattle.std.proofs.lemmas.List.Concat.{flat_map-append}
 use Rattle.asterix_frame.specs.Blocks.{DataBlock}
 use Rattle.asterix_frame.specs.Blocks as frame
-use Rattle.asterix_frame.specs.Groups.{AreFilled, ungrouped}
+use Rattle.asterix_frame.specs.Groups.{ungrouped}
 use Rattle.asterix_frame.proofs.Settings.{filled_first, filled_grow, filled_open}
 use Rattle.tracker_session.specs.Picture.{block_of, AreBlocksOf}
 use Rattle.tracker_session.specs.Setting.{IsSetting}

@@ -1,5 +1,5 @@
 -- Each list of octets has a replay.
-use Rattle.std.proofs.Common.{◌≡◌, ◌∙◌, ap, sym, refl, subst, inl, inr, ℕ, zero, suc, ◌+◌, ◌*◌, ◌/◌, ◌%◌, ◌^◌, ◌<◌, ◌≤◌, ◌⊎◌, List, [], ◌∷◌, ◌++◌, length, take, drop, arith, append_assoc, append-nil, length-append}
+use Rattle.std.proofs.Common.{◌≡◌, ◌∙◌, ap, sym, refl, subst, inl, inr, ℕ, zero, suc, ◌+◌, ◌*◌, ◌/◌, ◌%◌, ◌<◌, ◌≤◌, ◌⊎◌, List, [], ◌∷◌, ◌++◌, length, drop, arith, append_assoc, append-nil}
 use Rattle.std.specs.Prelude.{map, Option}
 use Rattle.std.specs.List.{flat_map, enumerate_from, AllByRecursion}
 use Rattle.std.proofs.lemmas.Bool.{cases_eq, cases_lt}
@@ -9,15 +9,14 @@ use Rattle.asterix_frame.specs.Blocks as frame
 use Rattle.tracker_session.specs.declared.report.Bearing.{Bearing}
 use Rattle.tracker_session.specs.declared.report.Bearing.TheVariants.{North, East, South, West}
 use Rattle.tracker_session.specs.declared.report.Position.{Position}
-use Rattle.tracker_session.specs.declared.status.Status.{Status}
 use Rattle.tracker_session.specs.declared.status.Status.TheVariants.{NotBuilt}
 use Rattle.trk_base.specs.Numbers.{day}
 use Rattle.tracker_session.specs.Datagram.{Report, IsDescriptor, IsReport, IsBuilt, high_octet, record_of, datagram_of}
-use Rattle.tracker_session.specs.Picture.{AreBlocksOf, IsEdition, track_record, track_records, positions_of}
-use Rattle.tracker_session.specs.Recording.{Item, datagram, tick, spelled, IsItem, limit, header, IsReading, IsRead, ReadsSo, IsNoRecording}
-use Rattle.tracker_session.specs.Replay.{Built, reports, tick_at, item_as, IsBuiltItem, all_reports, last_of, Gives, IsOutput, StopsAt, answer_of, Replays, HasReplay}
+use Rattle.tracker_session.specs.Picture.{AreBlocksOf, track_record, track_records, positions_of}
+use Rattle.tracker_session.specs.Recording.{Item, datagram, tick, spelled, IsItem, limit, header, IsReading, IsRead, ReadsSo}
+use Rattle.tracker_session.specs.Replay.{Built, reports, tick_at, item_as, IsBuiltItem, all_reports, last_of, Gives, IsOutput, StopsAt, answer_of, HasReplay}
 use Rattle.tracker_session.specs.Setting.{IsSetting}
-use Rattle.tracker_session.proofs.Builds.{reports_same, body_same}
+use Rattle.tracker_session.proofs.Builds.{reports_same}
 use Rattle.tracker_session.proofs.Octets.{IsBytes, rest_bytes, front_bytes}
 use Rattle.tracker_session.proofs.Outputs.{output_none, output_push}
 use Rattle.tracker_session.proofs.Readings.{reads_items}

@@ -1,15 +1,12 @@
 -- One step of a replay.
-use Rattle.std.proofs.Common.{◌≡◌, ◌∙◌, ap, sym, refl, subst, inl, inr, ℕ, ◌+◌, ◌<◌, ◌≤◌, ◌⊎◌, List, [], ◌∷◌, ◌++◌, length, arith, append-nil, length-append}
-use Rattle.std.specs.Prelude.{map, max, fold}
-use Rattle.std.specs.List.{flat_map}
+use Rattle.std.proofs.Common.{◌≡◌, ◌∙◌, ap, sym, refl, subst, inl, inr, ℕ, ◌+◌, ◌<◌, ◌≤◌, List, [], ◌∷◌, ◌++◌, length, arith, append-nil, length-append}
+use Rattle.std.specs.Prelude.{max, fold}
 use Rattle.std.proofs.lemmas.List.Sums.{fold-append}
 use Rattle.std.proofs.lemmas.List.Concat.{flat_map-append}
-use Rattle.std.proofs.Math.Nat.{max-eq_left, max-eq_right}
-use Rattle.io_traits.specs.Host.{HostState, WritesOnly}
+use Rattle.io_traits.specs.Host.{HostState}
 use Rattle.io_traits.specs.declared.host.Place.TheVariants as places
 use Rattle.io_traits.proofs.Faulting.{Rose_since}
 use Rattle.io_traits.proofs.Known.{Appends_nothing}
-use Rattle.tracker_session.specs.declared.batch.End.{End}
 use Rattle.tracker_session.specs.declared.batch.End.TheVariants as ends
 use Rattle.tracker_session.specs.declared.batch.Picture.{Picture}
 use Rattle.tracker_session.specs.declared.recording.ItemFault.{ItemFault}
@@ -17,12 +14,12 @@ use Rattle.tracker_session.specs.declared.recording.ItemFault.TheVariants.{First
 use Rattle.tracker_session.specs.declared.report.Position.{Position}
 use Rattle.tracker_session.specs.declared.status.Status.{Status}
 use Rattle.tracker_session.specs.declared.status.Status.TheVariants.{Done, Usage, Input, Read, Write, Memory, NotBuilt}
-use Rattle.tracker_session.specs.Datagram.{Report, IsBuilt, datagram_of}
+use Rattle.tracker_session.specs.Datagram.{IsBuilt}
 use Rattle.tracker_session.specs.Picture.{AreBlocksOf, positions_of, track_records}
-use Rattle.tracker_session.specs.Places.{OutputGot, StopsWriting}
+use Rattle.tracker_session.specs.Places.{StopsWriting}
 use Rattle.tracker_session.specs.Recording.{Item, datagram, tick, IsItem, IsOther, IsCutShort, spelled}
-use Rattle.tracker_session.specs.Replay.{Built, reports, tick_at, item_as, IsBuiltItem, reports_in, ticks_in, all_reports, all_ticks, last_of, Gives, IsOutput}
-use Rattle.tracker_session.specs.Steps.{StandsFor, IsStep, Takes, Breaks, BreaksIn, WritesEdition, BreaksInEdition, BreaksEdition, HasTaken, EndsAs, StoppedBehind, Stopped, BrokeOff}
+use Rattle.tracker_session.specs.Replay.{Built, reports, tick_at, item_as, reports_in, ticks_in, all_reports, all_ticks, last_of}
+use Rattle.tracker_session.specs.Steps.{StandsFor, IsStep, Takes, Breaks, WritesEdition, BreaksEdition, HasTaken, EndsAs, Stopped}
 use Rattle.tracker_session.specs.Taking.{TakesReports}
 use Rattle.tracker_session.proofs.Outputs.{output_none}
 use Rattle.tracker_session.proofs.Octets.{spelled_some}

@@ -26,12 +26,17 @@ Replayed octets status old new = (output : List ℕ) × Replays octets output st
 abbrev pub ReplayedFront : List ℕ → HostState → HostState → Type 0
 ReplayedFront octets old new = (output : List ℕ) (status : Status) → Replays octets output status → OutputGotFront old new output
 
+-- The replay came to an end, and Output didn't fail.
+pub record Ended (octets : List ℕ) (status : Status) (old new : HostState) : Type 0 where
+  pub replayed : Replayed octets status old new
+  pub faults : new.faults places.Output ≡ old.faults places.Output
+
 -- Output may break off the replay, or want of memory; else it ends as it must.
 abbrev pub Answers : List ℕ → Status → HostState → HostState → Type 0
 Answers octets (Write spot) old new = (spot ≡ spots.Output) × OutputFailed old new
 Answers octets Memory old new = Unit {0}
 Answers octets Usage old new = ⊥
 Answers octets (Read spot) old new = ⊥
-Answers octets Done old new = Replayed octets Done old new × (new.faults places.Output ≡ old.faults places.Output)
-Answers octets (Input offset) old new = Replayed octets (Input offset) old new
-Answers octets (NotBuilt item) old new = Replayed octets (NotBuilt item) old new
+Answers octets Done old new = Ended octets Done old new
+Answers octets (Input offset) old new = Ended octets (Input offset) old new
+Answers octets (NotBuilt item) old new = Ended octets (NotBuilt item) old new

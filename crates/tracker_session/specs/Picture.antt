@@ -1,5 +1,5 @@
 -- The thin picture: one CAT062 record (ASTERIX, Part 9) for each report so far, its plot taken as a track.
-use Rattle.std.specs.Prelude.{◌≡◌, ◌+◌, ◌*◌, ◌%◌, ℕ, ℤ, pos, neg_ℤ, List, [], ◌∷◌, ◌++◌, take, map}
+use Rattle.std.specs.Prelude.{◌≡◌, ◌*◌, ◌%◌, ℕ, ℤ, pos, neg_ℤ, List, [], ◌∷◌, ◌++◌, take, map}
 use Rattle.std.specs.List.{flat_map, concat, enumerate_from}
 use Rattle.std.specs.Int.{w32, cast_unsigned}
 use Rattle.trk_base.specs.Numbers.{day, round}

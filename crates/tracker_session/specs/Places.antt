@@ -56,11 +56,10 @@ pub record UsesInputAndOutput (old new : HostState) : Type 0 where
   pub faults : (p : Place) → p ≢ places.Input → p ≢ places.Output → new.faults p ≡ old.faults p
   pub later : (p : Place) → old.faults p ≤ new.faults p
 
--- Input was read to its end and Output written, each bound to its name, and no place failed.
+-- Input and Output are bound, each to its name, and no place failed.
 pub record IsFaultless (input output : List ℕ) (old new : HostState) : Type 0 where
   pub input_bound : new.bound places.Input ≡ Some (ways.Read, input)
   pub output_bound : new.bound places.Output ≡ Some (ways.Write, output)
-  pub at_end : IsEmpty (new.left places.Input)
   pub faults : (p : Place) → new.faults p ≡ old.faults p
 
 -- Input was bound to the name, and these octets were read of it: all that it had, unless they pass the limit.

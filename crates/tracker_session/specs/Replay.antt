@@ -2,7 +2,7 @@
 use Rattle.std.specs.Prelude.{◌≡◌, ◌<◌, ◌≤◌, ◌⊎◌, ℕ, max, List, [], ◌∷◌, ◌++◌, length, map, fold, Option, Some, None, slice_index_or}
 use Rattle.std.specs.List.{flat_map, concat, AllByRecursion}
 use Rattle.tracker_session.specs.Recording.{Item, datagram, tick, IsItem, IsReading, IsNoRecording}
-use Rattle.tracker_session.specs.Datagram.{Report, IsReport, IsBuilt, datagram_of}
+use Rattle.tracker_session.specs.Datagram.{Report, IsBuilt, datagram_of}
 use Rattle.tracker_session.specs.Picture.{IsEdition}
 use Rattle.tracker_session.specs.declared.status.Status.{Status}
 use Rattle.tracker_session.specs.declared.status.Status.TheVariants.{Done, Input, NotBuilt}

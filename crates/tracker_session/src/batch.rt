@@ -3,7 +3,7 @@ ghost use Rattle.std.specs.Prelude.{◌≡◌, ◌≢◌, ◌<◌, ◌≤◌, �
 ghost use Rattle.std.specs.Io.KnownBytes.{Appends, Consumes};
 ghost use Rattle.io_traits.specs.declared.host.Place.{Place};
 ghost use Rattle.io_traits.specs.declared.host.Way.{Way};
-ghost use Rattle.io_traits.specs.Host.{IsBoundFor, WritesOnly};
+ghost use Rattle.io_traits.specs.Host.{IsBoundFor, IsEmpty, WritesOnly};
 ghost use Rattle.tracker_session.specs.Answers.{Answers, IsAnswer, Replayed, ReplayedFront};
 ghost use Rattle.tracker_session.specs.Places.{BoundAtMost, InputHas, InputRead, InputFailed, OutputBound, OutputFailed, IsFaultless, StopsReading, StopsWriting, UsesInput, UsesInputAndOutput, UsesOutput};
 ghost use Rattle.tracker_session.specs.Items.{item_of};
@@ -221,7 +221,9 @@ fn run_replay<H: Host>(alloc: Global, input: &str, output: &str, host: &mut H) -
     ensures front { (octets : List ℕ) → InputHas (H.state host.old) octets → ReplayedFront octets (H.state host.old) (H.state host.new) }
     ensures read { (spot : Spot) → result ≡ Status.Read spot → (spot ≡ Spot.Input) × InputFailed (H.state host.old) (H.state host.new) }
     ensures write { (spot : Spot) → result ≡ Status.Write spot → (spot ≡ Spot.Output) × OutputFailed (H.state host.old) (H.state host.new) }
-    ensures done { result ≡ Status.Done → IsFaultless input.now output.now (H.state host.old) (H.state host.new) }
+    ensures faultless { IsAnswer result → IsFaultless input.now output.now (H.state host.old) (H.state host.new) }
+    ensures whole { IsAnswer result → (octets : List ℕ) → InputHas (H.state host.old) octets → length octets ≤ LIMIT → IsEmpty ((H.state host.new).left Place.Input) }
+    ensures order { (spot : Spot) → result ≡ Status.Read spot → (H.state host.new).bound Place.Output ≡ None }
     ensures input { BoundAtMost ((H.state host.new).bound Place.Input) Way.Read input.now }
     ensures output { BoundAtMost ((H.state host.new).bound Place.Output) Way.Write output.now }
     ensures uses { UsesInputAndOutput (H.state host.old) (H.state host.new) }
@@ -241,6 +243,14 @@ fn run_replay<H: Host>(alloc: Global, input: &str, output: &str, host: &mut H) -
 /// The one command is `replay SETTINGS INPUT OUTPUT PRICES`, four names. It reads the recording
 /// that Input is bound to, and writes the thin picture of each of its ticks to Output. Settings
 /// and prices are named and left alone, and Screen gets nothing.
+///
+/// - `Usage` comes exactly for other words.
+/// - `Read` comes where Input couldn't be opened or read, `Write` where Output couldn't be opened or
+///   written, and `Memory` where memory is wanting.
+/// - Else the answer is that of the input: `NotBuilt` at its first datagram that isn't built, or
+///   where it isn't a recording; `Input` at its first fault; `Done` where it has neither.
+///
+/// What Output got is a front of the editions before that place, and at the last three all of them.
 pub fn run_batch<H: Host>(alloc: Global, words: &[String], host: &mut H) -> Status
     requires { (p : Place) → (H.state host.old).bound p ≡ None }
 
@@ -264,9 +274,13 @@ pub fn run_batch<H: Host>(alloc: Global, words: &[String], host: &mut H) -> Stat
     // Where neither failed and memory isn't wanting, the answer is the replay's.
     ensures complete { (octets output : List ℕ) (status : Status) → InputHas (H.state host.old) octets → Replays octets output status → AreReplay (texts words.now) → (InputFailed (H.state host.old) (H.state host.new) → ⊥) → (OutputFailed (H.state host.old) (H.state host.new) → ⊥) → result ≢ Status.Memory → result ≡ status }
 
-    // Input and Output are bound at most once, each to its own word; at Done both are, and no place has failed.
+    // Input and Output are bound at most once, each to its own word; Output only behind all reading.
     ensures bound { (input output : List ℕ) → IsReplay (texts words.now) input output → BoundAtMost ((H.state host.new).bound Place.Input) Way.Read input × BoundAtMost ((H.state host.new).bound Place.Output) Way.Write output }
-    ensures faultless { (input output : List ℕ) → IsReplay (texts words.now) input output → result ≡ Status.Done → IsFaultless input output (H.state host.old) (H.state host.new) }
+    ensures order { (spot : Spot) → result ≡ Status.Read spot → (H.state host.new).bound Place.Output ≡ None }
+
+    // At the three answers of a replay both are bound, no place has failed, and Input was read to its end, or past the limit.
+    ensures faultless { (input output : List ℕ) → IsReplay (texts words.now) input output → IsAnswer result → IsFaultless input output (H.state host.old) (H.state host.new) }
+    ensures whole { IsAnswer result → (octets : List ℕ) → InputHas (H.state host.old) octets → length octets ≤ LIMIT → IsEmpty ((H.state host.new).left Place.Input) }
 
     // No other place is bound, read or written, Input isn't written, and Output isn't read.
     ensures uses { UsesInputAndOutput (H.state host.old) (H.state host.new) }

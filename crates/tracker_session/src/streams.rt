@@ -1,5 +1,5 @@
 // A place read to its end, and octets written whole.
-ghost use Rattle.std.specs.Prelude.{◌≡◌, ◌≢◌, ◌<◌, ◌≤◌, ℕ, List, length, take, Option, None, Some, IfOk, OnOk, OnErr, IsErrOf};
+ghost use Rattle.std.specs.Prelude.{◌≡◌, ◌≢◌, ◌<◌, ◌≤◌, ◌+◌, ℕ, List, length, take, Option, None, Some, IfOk, OnOk, OnErr, IsErrOf};
 ghost use Rattle.std.specs.Io.KnownBytes.{Appends, Consumes};
 ghost use Rattle.io_traits.specs.Faults.{HasCause, Rose};
 ghost use Rattle.io_traits.specs.Host.{IsBoundFor, IsEmpty, ReadsOnly, WritesOnly};
@@ -28,6 +28,7 @@ pub fn read_all<H: Host>(alloc: Global, host: &mut H, place: Place) -> Result<Ve
     requires { IsBoundFor Way.Read (H.state host.old) place }
     ensures taken { IfOk result (λ v. Consumes ((H.state host.old).left place) ((H.state host.new).left place) v.items) }
     ensures whole { IfOk result (λ v. length v.items ≤ LIMIT → IsEmpty ((H.state host.new).left place)) }
+    ensures bounded { IfOk result (λ v. length v.items ≤ LIMIT + PIECE) }
     ensures failed { IsErrOf result ReadError.Failed → Rose ((H.state host.old).faults place) ((H.state host.new).faults place) }
     ensures kept { OnOk result ((H.state host.new).faults place ≡ (H.state host.old).faults place) }
     ensures others { ReadsOnly place (H.state host.old) (H.state host.new) }

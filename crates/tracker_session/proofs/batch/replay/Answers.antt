@@ -1,22 +1,19 @@
-use Rattle.std.proofs.Common.{rules, ◌≡◌, ◌∙◌, ap, sym, refl, subst, List, ℕ, length, take, arith, ◌<◌, ◌+◌}
-use Rattle.io_traits.specs.declared.host.Place.TheVariants as places
+use Rattle.std.proofs.Common.{rules, refl, length, take, arith, ◌+◌}
 use Rattle.std.specs.Prelude.{nat_lt}
-use Rattle.tracker_session.specs.Answers.{Answers, Replayed}
 use Rattle.tracker_session.specs.Recording.{limit}
 use Rattle.tracker_session.specs.Steps.{status_at}
-use Rattle.tracker_session.proofs.Octets.{IsBytes}
 use Rattle.tracker_session.proofs.Outcomes.{ended_answers, front_none, no_recording, no_start, replayed_front, seen_of}
 use Rattle.tracker_session.proofs.Runs.{ended_run, stopped_front}
 use Rattle.tracker_session.proofs.batch.replay.Goals as goal
 
 pub returns-in-Err-NoRecording-clause-answer : goal.returns-in-Err-NoRecording-clause-answer
-returns-in-Err-NoRecording-clause-answer g c = no_recording c.args.octets.now (g.H.Host.state c.args.host.now) (c.header_of.ensures.other (search rules))
+returns-in-Err-NoRecording-clause-answer g c = record { replayed = no_recording c.args.octets.now (g.H.Host.state c.args.host.now) (c.header_of.ensures.other (search rules)); faults = refl }
 
 pub returns-in-Err-NoRecording-clause-front : goal.returns-in-Err-NoRecording-clause-front
 returns-in-Err-NoRecording-clause-front g c = λ output status r. front_none (g.H.Host.state c.args.host.now) (g.H.Host.state c.args.host.now) output refl
 
 pub returns-in-Err-CutShort-clause-answer : goal.returns-in-Err-CutShort-clause-answer
-returns-in-Err-CutShort-clause-answer g c = no_start c.args.octets.now (g.H.Host.state c.args.host.now) (c.header_of.ensures.cut (search rules))
+returns-in-Err-CutShort-clause-answer g c = record { replayed = no_start c.args.octets.now (g.H.Host.state c.args.host.now) (c.header_of.ensures.cut (search rules)); faults = refl }
 
 pub returns-in-Err-CutShort-clause-front : goal.returns-in-Err-CutShort-clause-front
 returns-in-Err-CutShort-clause-front g c = λ output status r. front_none (g.H.Host.state c.args.host.now) (g.H.Host.state c.args.host.now) output refl

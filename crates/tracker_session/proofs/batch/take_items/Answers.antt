@@ -1,6 +1,5 @@
-use Rattle.std.proofs.Common.{rules, ◌≡◌, ◌∙◌, ap, sym, refl, subst, List, length, Ok, Result, Bool, true, false, arith}
+use Rattle.std.proofs.Common.{rules, ◌≡◌, ◌∙◌, refl, length, Ok, true, false, arith}
 use Rattle.std.proofs.lemmas.List.{nil_from_length}
-use Rattle.io_traits.specs.Host.{WritesOnly}
 use Rattle.io_traits.specs.declared.host.Place.TheVariants as places
 use Rattle.io_traits.proofs.Frames.{WritesOnly_refl, WritesOnly_trans}
 use Rattle.tracker_session.specs.Items.{item_of}

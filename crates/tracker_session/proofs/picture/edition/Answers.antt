@@ -1,6 +1,5 @@
-use Rattle.std.proofs.Common.{rules, ◌≡◌, ◌∙◌, ◌+◌, ◌++◌, ◌∷◌, [], ap, take, get_or, subst, sym, List, ℕ}
+use Rattle.std.proofs.Common.{◌≡◌, ◌+◌, take, get_or}
 use Rattle.tracker_session.specs.Picture.{track_record, track_records}
-use Rattle.tracker_session.specs.Setting.{IsSetting}
 use Rattle.tracker_session.proofs.Pictures.{nowhere, tracks_more}
 use Rattle.tracker_session.proofs.picture.edition.Goals as goal
 

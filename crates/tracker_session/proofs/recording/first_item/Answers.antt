@@ -1,4 +1,4 @@
-use Rattle.std.proofs.Common.{rules, ◌≡◌, ◌<◌, ◌+◌, ◌*◌, ℕ, length, get_or, take, drop, arith, length-drop}
+use Rattle.std.proofs.Common.{rules, ◌≡◌, get_or, arith, length-drop}
 use Rattle.std.proofs.lemmas.List.{take_rest}
 use Rattle.tracker_session.proofs.Octets.{tick_cut_at, datagram_cut_at}
 use Rattle.tracker_session.proofs.recording.first_item.Goals as goal

@@ -1,4 +1,4 @@
-use Rattle.std.proofs.Common.{rules, ◌≡◌, ◌<◌, ◌≤◌, ◌++◌, ◌∷◌, [], ℕ, List, length, get_or, take, drop, ◌-◌, ◌/◌, ◌%◌, arith, refl, ◌∙◌, ap, sym}
+use Rattle.std.proofs.Common.{rules, ◌≡◌, ◌≤◌, ◌++◌, ◌∷◌, ℕ, List, length, get_or, take, drop, ◌-◌, ◌/◌, ◌%◌, arith, refl, ◌∙◌, ap, sym}
 use Rattle.std.proofs.lemmas.List.{take_all, length-drop}
 use Rattle.tracker_session.specs.Datagram.{Report, IsReport, high_octet, record_of}
 use Rattle.tracker_session.proofs.report.first_report.Goals as goal

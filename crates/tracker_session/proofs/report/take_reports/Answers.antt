@@ -1,6 +1,6 @@
-use Rattle.std.proofs.Common.{rules, ◌≡◌, ◌∙◌, ◌≤◌, ◌<◌, ap, sym, subst, ℕ, List, [], ◌∷◌, ◌++◌, length, vec_len, arith}
+use Rattle.std.proofs.Common.{rules, ◌≡◌, ◌∙◌, ◌≤◌, ◌<◌, ap, sym, subst, ℕ, List, [], ◌∷◌, ◌++◌, length, arith}
 use Rattle.std.specs.List.{flat_map, AllByRecursion}
-use Rattle.tracker_session.specs.Datagram.{Report, IsReport, record_of, datagram_of}
+use Rattle.tracker_session.specs.Datagram.{Report, IsReport, record_of}
 use Rattle.tracker_session.specs.Picture.{position_of}
 use Rattle.tracker_session.proofs.Builds.{body_same, reports_front}
 use Rattle.tracker_session.proofs.TakingReports.{TakesSo, takes_grow, takes_full}

@@ -1,4 +1,4 @@
-use Rattle.std.proofs.Common.{◌≡◌, ◌+◌, ◌-◌, ◌*◌, ◌≤◌, ℕ, length, vec_len}
+use Rattle.std.proofs.Common.{◌≡◌, ◌-◌, vec_len, ◌≤◌, ◌+◌}
 use Rattle.std.specs.Io.KnownBytes.{Consumes}
 use Rattle.io_traits.specs.Host.{IsBoundFor, ReadsOnly}
 use Rattle.io_traits.specs.declared.host.Way.{Way}
@@ -8,6 +8,7 @@ abbrev pub invariant-pieces : goal.invariant-pieces
 invariant-pieces g l =
     let state = g.H.Host.state in
     record {
+      size : vec_len l.octets ≤ 1073741824 + 65536;
       bound : IsBoundFor Way.Read (state l.host) l.place;
       taken : Consumes ((state l.fn.host).left l.place) ((state l.host).left l.place) l.octets.items;
       faults_here : (state l.host).faults l.place ≡ (state l.fn.host).faults l.place;

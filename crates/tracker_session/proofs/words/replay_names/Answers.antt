@@ -1,6 +1,5 @@
-use Rattle.std.proofs.Common.{rules, ◌≡◌, ◌∙◌, ◌<◌, ◌≤◌, ap, sym, ℕ, List, [], ◌∷◌, length, get_or, map, string_bytes, arith}
+use Rattle.std.proofs.Common.{rules, ◌≡◌, ◌∙◌, ◌<◌, ◌≤◌, ap, sym, List, [], ◌∷◌, length, get_or, map, string_bytes, arith}
 use Rattle.std.specs.Prelude.{codes}
-use Rattle.tracker_session.specs.Words.{IsReplay}
 use Rattle.tracker_session.proofs.words.replay_names.Goals as goal
 
 five : {A : Type 0} (xs : List A) (a b c d e : A) → 5 ≤ length xs → length xs < 6 → a ≡ get_or xs 0 a → b ≡ get_or xs 1 b → c ≡ get_or xs 2 c → d ≡ get_or xs 3 d → e ≡ get_or xs 4 e → xs ≡ a ∷ b ∷ c ∷ d ∷ e ∷ []

@@ -1,7 +1,6 @@
-use Rattle.std.proofs.Common.{rules, ◌≡◌, ◌<◌, ◌≤◌, ◌+◌, ◌++◌, ap, ◌∙◌, subst, ℕ, List, [], length, arith, Bool, true, false, Ok, inl, inr, if◌then◌else◌}
+use Rattle.std.proofs.Common.{rules, ◌≡◌, ◌<◌, ◌≤◌, ◌+◌, ◌++◌, ap, ◌∙◌, subst, ℕ, List, length, arith, Bool, true, false, Ok, inl, inr, if◌then◌else◌}
 use Rattle.std.proofs.lemmas.Bool.{cases_lt}
 use Rattle.asterix_frame.specs.Blocks.{DataBlock, spelled}
-use Rattle.tracker_session.specs.Setting.{IsSetting}
 use Rattle.tracker_session.proofs.Settings.{setting_grow, setting_next}
 use Rattle.tracker_session.proofs.picture.Setting.add.Goals as goal
 

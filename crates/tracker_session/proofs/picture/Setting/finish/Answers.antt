@@ -1,5 +1,4 @@
-use Rattle.std.proofs.Common.{ap, ◌∙◌, ◌++◌, rules, ◌≡◌}
-use Rattle.tracker_session.specs.Picture.{AreBlocksOf}
+use Rattle.std.proofs.Common.{◌++◌, rules, ◌≡◌}
 use Rattle.tracker_session.proofs.Settings.{setting_end}
 use Rattle.tracker_session.proofs.picture.Setting.finish.Goals as goal
 
