@@ -1,7 +1,7 @@
 -- From what was read of Input to what Input had, and from step to step.
-use Rattle.std.proofs.Common.{◌≡◌, ◌≢◌, ◌∙◌, ap, sym, refl, subst, inl, inr, ℕ, ◌<◌, ◌≤◌, ◌^◌, ◌⊎◌, Bool, true, false, List, [], ◌∷◌, ◌++◌, length, take, drop, min, arith, length-append, append-nil}
+use Rattle.std.proofs.Common.{◌≡◌, ◌≢◌, ◌∙◌, ap, sym, refl, subst, inl, inr, ℕ, ◌<◌, ◌≤◌, ◌^◌, ◌⊎◌, Bool, true, false, List, [], ◌++◌, length, take, drop, min, arith, length-append, append-nil}
 use Rattle.std.specs.Prelude.{Option, Some, None, nat_lt}
-use Rattle.std.proofs.lemmas.Bool.{cases_lt, lt-ltb, ltb-false}
+use Rattle.std.proofs.lemmas.Bool.{cases_lt, lt-ltb}
 use Rattle.std.proofs.lemmas.List.{take_all, take-append-drop, take-append-le}
 use Rattle.std.specs.Io.KnownBytes.{Appends, Consumes}
 use Rattle.io_traits.specs.Host.{HostState, IsEmpty, WritesOnly}
@@ -17,8 +17,8 @@ use Rattle.tracker_session.specs.declared.status.Status.{Status}
 use Rattle.tracker_session.specs.declared.status.Status.TheVariants.{Done, Usage, Input, Read, Write, Memory, NotBuilt}
 use Rattle.tracker_session.specs.Answers.{Answers, IsAnswer, Replayed, ReplayedFront}
 use Rattle.tracker_session.specs.Places.{AppendsFront, InputHas, InputRead, InputFailed, IsFaultless, OutputBound, OutputFailed, OutputGotFront, StopsWriting, UsesInput, UsesOutput}
-use Rattle.tracker_session.specs.Recording.{Item, limit, mark, header, recording, Ending, nothing, other, cut, fault_of, HasNoStart, IsReading, IsNoRecording}
-use Rattle.tracker_session.specs.Replay.{Replays, answer_of}
+use Rattle.tracker_session.specs.Recording.{Item, limit, mark, header, recording, fault_of, HasNoStart, IsReading, IsNoRecording}
+use Rattle.tracker_session.specs.Replay.{Replays}
 use Rattle.tracker_session.specs.Steps.{status_at}
 use Rattle.tracker_session.proofs.Outputs.{output_none}
 use Rattle.tracker_session.proofs.Runs.{Seen, one_replay, front_got}
