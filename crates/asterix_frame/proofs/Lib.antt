@@ -12,3 +12,4 @@ pub mod Sequences
 pub mod DataItems
 pub mod Placed
 pub mod DataRecordCodes
+pub mod Bodies
