@@ -155,17 +155,23 @@ step_read uap o b rest is category fit e good =
           record { step = inl (records uap rs, rest, (is, w.are_records, subst IsDataBlock block fit), e ∙ ap (λ b. spelled b ++ rest) block, good) }
       | inr (place, cause, f) ↦
           let block : b ≡ block_with uap b.body = λ i. record { category = category i; body = b.body } in
-          record { step = inr (3 + place, cause, no_records (record {
-            uap = uap;
-            body = b.body;
-            rest = rest;
-            place = place;
-            is_read = is;
-            is_block = subst IsDataBlock block fit;
-            begins = e ∙ ap (λ b. spelled b ++ rest) block;
-            fault = f;
-            inside_is = refl;
-          })) }
+          record {
+            step = inr (
+              3 + place,
+              cause,
+              no_records (record {
+                uap = uap;
+                body = b.body;
+                rest = rest;
+                place = place;
+                is_read = is;
+                is_block = subst IsDataBlock block fit;
+                begins = e ∙ ap (λ b. spelled b ++ rest) block;
+                fault = f;
+                inside_is = refl;
+              }),
+            );
+          }
     ]
 
 step : (o : List ℕ) → AreOctets o → 0 < length o → DatagramStep o
