@@ -1,12 +1,12 @@
 pub mod Builds
-pub mod SomeReading
-pub mod SomeReplay
-pub mod Octets
+pub mod Forms
+pub mod Inputs
 pub mod Outcomes
 pub mod Outputs
 pub mod Pictures
-pub mod Readings
 pub mod Runs
 pub mod Settings
 pub mod Stepping
 pub mod TakingReports
+pub mod Told
+pub mod Walks
