@@ -1,5 +1,7 @@
 // What the octets of one item say.
 ghost use Rattle.std.specs.Prelude.{◌≡◌, ◌≤◌};
+ghost use Rattle.std.specs.Option.{ForSome};
+ghost use Rattle.trk_base.specs.Ranges.{IsCode, IsLevel, IsAddress};
 ghost use Rattle.cat048_in.specs.Values.{has_bit, is_doubtful, source_of, kind_of, simulated_of, spi_of, monitor_of, test_of, polar_of, code_of, level_of, address_of};
 
 /// V, of I048/070 and I048/090: the value isn't validated.
@@ -36,7 +38,8 @@ pub(crate) fn source_of(octets: &[u8]) -> Option<(u8, u8)>
 
 /// TYP, of I048/020.
 pub(crate) fn kind_of(octets: &[u8]) -> Option<u8>
-    ensures { result ≡ kind_of octets.now }
+    ensures value { result ≡ kind_of octets.now }
+    ensures in_range { ForSome result (λ k. k ≤ 7) }
 {
     let first = octets.first()?;
     Some(first >> 5)
@@ -88,7 +91,8 @@ pub(crate) fn polar_of(octets: &[u8]) -> Option<(u16, u16)>
 
 /// The code of I048/070, unless it isn't validated or is garbled.
 pub(crate) fn code_of(octets: &[u8]) -> Option<u16>
-    ensures { result ≡ code_of octets.now }
+    ensures value { result ≡ code_of octets.now }
+    ensures in_range { IsCode result }
 {
     let [high, low] = octets else {
         return None;
@@ -102,7 +106,8 @@ pub(crate) fn code_of(octets: &[u8]) -> Option<u16>
 
 /// The level of I048/090, unless it isn't validated or is garbled.
 pub(crate) fn level_of(octets: &[u8]) -> Option<i16>
-    ensures { result ≡ level_of octets.now }
+    ensures value { result ≡ level_of octets.now }
+    ensures in_range { IsLevel result }
 {
     let [high, low] = octets else {
         return None;
@@ -121,7 +126,8 @@ pub(crate) fn level_of(octets: &[u8]) -> Option<i16>
 
 /// The address of I048/220.
 pub(crate) fn address_of(octets: &[u8]) -> Option<u32>
-    ensures { result ≡ address_of octets.now }
+    ensures value { result ≡ address_of octets.now }
+    ensures in_range { IsAddress result }
 {
     match octets {
         [high, middle, low] => Some(u32::from_be_bytes([0, *high, *middle, *low])),
