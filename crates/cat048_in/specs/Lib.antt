@@ -1,4 +1,4 @@
 pub mod Values
 pub mod InRange
-
+pub mod Reports
 pub mod Plots

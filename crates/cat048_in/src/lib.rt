@@ -1,7 +1,12 @@
 //! Target reports of a monoradar: ASTERIX category 048 (EUROCONTROL ASTERIX, Part 4).
 #![tactic(auto)]
 
+mod reader;
 mod report;
 mod values;
 
+#[cfg(test)]
+mod tests;
+
+pub use reader::{ReadError, read048};
 pub use report::{NotPlot, Report};
