@@ -9,12 +9,11 @@ ghost use Rattle.cat048_in.specs.Reports.{octets, report_of, reports_of};
 
 use crate::Report;
 use crate::values::{
-    address_of, code_of, kind_of, level_of, monitor_of, polar_of, simulated_of, source_of, spi_of,
+    address_of, below_day, code_of, kind_of, level_of, monitor_of, polar_of, simulated_of, source_of, spi_of,
     test_of,
 };
 use asterix_frame::{Block, BlocksError, ItemSpans, Uap, records};
 use std::alloc::Global;
-use trk_base::DAY;
 
 /// I048/010, data source identifier.
 const SOURCE: u8 = 1;
@@ -45,7 +44,7 @@ pub fn read048(alloc: Global, block: &Block<'_>) -> Result<Vec<Report>, ReadErro
     ensures refuses { (m : Malformed) → IsFaultOfBody Cat048 block.now m → Refuses result (λ x. x ≡ m) }
 {
     let records = records(alloc, Uap::Cat048, block)?;
-    let mut reports = Vec::with_capacity(alloc, records.len())?;
+    let mut reports = Vec::new(alloc);
     for record in &records {
         reports.push(report_of(block.body, record))?;
     }
@@ -53,34 +52,30 @@ pub fn read048(alloc: Global, block: &Block<'_>) -> Result<Vec<Report>, ReadErro
 }
 
 // The report of a record. `body` is that of its block.
-fn report_of(body: &[u8], record: &ItemSpans) -> Report
-    requires { AreSpans body.now record.now }
-    ensures { result ≡ report_of (parts_at body.now record.now.frns.items) }
+fn report_of(body: &[u8], items: &ItemSpans) -> Report
+    requires { AreSpans body.now items.now }
+    ensures { result ≡ report_of (parts_at body.now items.now.frns.items) }
 {
-    let descriptor = octets(body, record, DESCRIPTOR);
-    // `records` has judged the time; the type asks for it.
-    let tod = record
-        .time_of_day(Uap::Cat048, body)
-        .filter(|time| u64::from(*time) < DAY);
+    let descriptor = octets(body, items, DESCRIPTOR);
     Report {
-        source: source_of(octets(body, record, SOURCE)),
-        tod,
+        source: source_of(octets(body, items, SOURCE)),
+        tod: below_day(items.time_of_day(Uap::Cat048, body)),
         kind: kind_of(descriptor),
         simulated: simulated_of(descriptor),
         test: test_of(descriptor),
         spi: spi_of(descriptor),
         monitor: monitor_of(descriptor),
-        polar: polar_of(octets(body, record, POSITION)),
-        code: code_of(octets(body, record, CODE)),
-        level: level_of(octets(body, record, LEVEL)),
-        address: address_of(octets(body, record, ADDRESS)),
+        polar: polar_of(octets(body, items, POSITION)),
+        code: code_of(octets(body, items, CODE)),
+        level: level_of(octets(body, items, LEVEL)),
+        address: address_of(octets(body, items, ADDRESS)),
     }
 }
 
 // The octets of the item with that FRN, or none where the record doesn't have it.
-fn octets<'a>(body: &'a [u8], record: &ItemSpans, frn: u8) -> &'a [u8]
-    requires { AreSpans body.now record.now }
-    ensures { result.now ≡ octets frn (parts_at body.now record.now.frns.items) }
+fn octets<'a>(body: &'a [u8], items: &ItemSpans, frn: u8) -> &'a [u8]
+    requires { AreSpans body.now items.now }
+    ensures { result.now ≡ octets frn (parts_at body.now items.now.frns.items) }
 {
-    record.item(body, frn).unwrap_or(&[])
+    items.item(body, frn).unwrap_or(&[])
 }

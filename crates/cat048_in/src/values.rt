@@ -1,8 +1,10 @@
 // What the octets of one item say.
 ghost use Rattle.std.specs.Prelude.{◌≡◌, ◌≤◌};
 ghost use Rattle.std.specs.Option.{ForSome};
-ghost use Rattle.trk_base.specs.Ranges.{IsCode, IsLevel, IsAddress};
-ghost use Rattle.cat048_in.specs.Values.{has_bit, is_doubtful, source_of, kind_of, simulated_of, spi_of, monitor_of, test_of, polar_of, code_of, level_of, address_of};
+ghost use Rattle.trk_base.specs.Ranges.{IsTimeOfDay, IsCode, IsLevel, IsAddress};
+ghost use Rattle.cat048_in.specs.Values.{has_bit, is_doubtful, source_of, below_day, kind_of, simulated_of, spi_of, monitor_of, test_of, polar_of, code_of, level_of, address_of};
+
+use trk_base::DAY;
 
 /// V, of I048/070 and I048/090: the value isn't validated.
 const NOT_VALIDATED: u32 = 16;
@@ -34,6 +36,14 @@ pub(crate) fn source_of(octets: &[u8]) -> Option<(u8, u8)>
         [sac, sic] => Some((*sac, *sic)),
         _ => None,
     }
+}
+
+/// A time of day, where it is below a day. In a whole record it is.
+pub(crate) fn below_day(time: Option<u32>) -> Option<u32>
+    ensures value { result ≡ below_day time }
+    ensures in_range { ForSome result IsTimeOfDay }
+{
+    time.filter(|time| u64::from(*time) < DAY)
 }
 
 /// TYP, of I048/020.
