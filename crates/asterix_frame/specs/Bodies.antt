@@ -1,5 +1,5 @@
 -- The body of a block as a list of records, and where they lie in it.
-use Rattle.std.specs.Prelude.{◌≡◌, ℕ, ◌+◌, ◌-◌, ◌<◌, ◌≤◌, List, [], ◌∷◌, ◌++◌, length, map, take, drop, All}
+use Rattle.std.specs.Prelude.{◌≡◌, ℕ, ◌+◌, ◌-◌, ◌<◌, ◌≤◌, ◌==◌, if◌then◌else◌, List, [], ◌∷◌, ◌++◌, length, map, take, drop, All, Option, Some, None}
 use Rattle.std.specs.List.{flat_map, filter_map, AllByRecursion}
 use Rattle.asterix_frame.specs.declared.block.Malformed.{Malformed}
 use Rattle.asterix_frame.specs.declared.block.Block.{Block}
@@ -54,6 +54,11 @@ times_of uap rs = filter_map (λ r. time_of uap r.items) rs
 -- an FRN from 1 on, and a place in the body
 abbrev pub IsSpan : List ℕ → ℕ × ℕ × ℕ → Type 0
 IsSpan body span = (1 ≤ span.0) × LiesIn body span
+
+-- the first octet and the end of the item with that FRN, if there is one
+abbrev pub span_of : ℕ → List (ℕ × ℕ × ℕ) → Option (ℕ × ℕ)
+span_of frn [] = None
+span_of frn (span ∷ more) = if span.0 == frn then Some (span.1, span.2) else span_of frn more
 
 -- what lies there
 abbrev pub part_at : List ℕ → ℕ × ℕ × ℕ → Part
