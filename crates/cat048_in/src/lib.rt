@@ -3,10 +3,9 @@
 
 mod reader;
 mod report;
-mod values;
-
 #[cfg(test)]
 mod tests;
+mod values;
 
 pub use reader::{ReadError, read048};
 pub use report::{NotPlot, Report};

@@ -9,8 +9,8 @@ ghost use Rattle.cat048_in.specs.Reports.{octets, report_of, reports_of};
 
 use crate::Report;
 use crate::values::{
-    address_of, below_day, code_of, kind_of, level_of, monitor_of, polar_of, simulated_of, source_of, spi_of,
-    test_of,
+    address_of, below_day, code_of, kind_of, level_of, monitor_of, polar_of, simulated_of,
+    source_of, spi_of, test_of,
 };
 use asterix_frame::{Block, BlocksError, ItemSpans, Uap, records};
 use std::alloc::Global;

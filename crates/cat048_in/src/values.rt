@@ -59,21 +59,27 @@ pub(crate) fn kind_of(octets: &[u8]) -> Option<u8>
 pub(crate) fn simulated_of(octets: &[u8]) -> bool
     ensures { result ≡ simulated_of octets.now }
 {
-    octets.first().is_some_and(|first| has_bit(u16::from(*first), 5))
+    octets
+        .first()
+        .is_some_and(|first| has_bit(u16::from(*first), 5))
 }
 
 /// SPI, of I048/020.
 pub(crate) fn spi_of(octets: &[u8]) -> bool
     ensures { result ≡ spi_of octets.now }
 {
-    octets.first().is_some_and(|first| has_bit(u16::from(*first), 3))
+    octets
+        .first()
+        .is_some_and(|first| has_bit(u16::from(*first), 3))
 }
 
 /// RAB, of I048/020.
 pub(crate) fn monitor_of(octets: &[u8]) -> bool
     ensures { result ≡ monitor_of octets.now }
 {
-    octets.first().is_some_and(|first| has_bit(u16::from(*first), 2))
+    octets
+        .first()
+        .is_some_and(|first| has_bit(u16::from(*first), 2))
 }
 
 /// TST, of I048/020.
