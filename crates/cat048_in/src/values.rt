@@ -6,10 +6,20 @@ ghost use Rattle.cat048_in.specs.Values.{has_bit, is_doubtful, source_of, below_
 
 use trk_base::DAY;
 
-/// V, of I048/070 and I048/090: the value isn't validated.
-const NOT_VALIDATED: u32 = 16;
+// Bits of I048/020, as the standard counts them: 1 is the lowest of its octet.
+/// SIM, in the first octet: the report is simulated.
+const SIMULATED: u32 = 5;
+/// SPI, in the first octet: special position identification.
+const SPECIAL_POSITION: u32 = 3;
+/// RAB, in the first octet: the report is from the field monitor.
+const FIELD_MONITOR: u32 = 2;
+/// TST, in the first extension: the report is of a test target.
+const TEST_TARGET: u32 = 8;
 
-/// G, of I048/070 and I048/090: the value is garbled.
+// Bits of I048/070 and I048/090.
+/// V: the value isn't validated.
+const NOT_VALIDATED: u32 = 16;
+/// G: the value is garbled.
 const GARBLED: u32 = 15;
 
 // Whether bit n of a number is set. Bit 1 is the lowest.
@@ -61,7 +71,7 @@ pub(crate) fn simulated_of(octets: &[u8]) -> bool
 {
     octets
         .first()
-        .is_some_and(|first| has_bit(u16::from(*first), 5))
+        .is_some_and(|first| has_bit(u16::from(*first), SIMULATED))
 }
 
 /// SPI, of I048/020.
@@ -70,7 +80,7 @@ pub(crate) fn spi_of(octets: &[u8]) -> bool
 {
     octets
         .first()
-        .is_some_and(|first| has_bit(u16::from(*first), 3))
+        .is_some_and(|first| has_bit(u16::from(*first), SPECIAL_POSITION))
 }
 
 /// RAB, of I048/020.
@@ -79,7 +89,7 @@ pub(crate) fn monitor_of(octets: &[u8]) -> bool
 {
     octets
         .first()
-        .is_some_and(|first| has_bit(u16::from(*first), 2))
+        .is_some_and(|first| has_bit(u16::from(*first), FIELD_MONITOR))
 }
 
 /// TST, of I048/020.
@@ -87,7 +97,7 @@ pub(crate) fn test_of(octets: &[u8]) -> bool
     ensures { result ≡ test_of octets.now }
 {
     match octets {
-        [_, extension, ..] => has_bit(u16::from(*extension), 8),
+        [_, extension, ..] => has_bit(u16::from(*extension), TEST_TARGET),
         _ => false,
     }
 }
