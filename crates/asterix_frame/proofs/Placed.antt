@@ -53,6 +53,18 @@ item_is_at body frn (s ∷ ss) h =
           ∙ sym (ap (λ b. option_map (λ s. take (s.1 - s.0) (drop s.0 body)) (if b then Some (s.1, s.2) else span_of frn ss)) (ne_eqb s.0 frn other))
     ]
 
+-- the item that is found lies in the body
+pub span_within : (body : List ℕ) (frn : ℕ) (found : List (ℕ × ℕ × ℕ)) (first last : ℕ) → AllByRecursion (IsSpan body) found → span_of frn found ≡ Some (first, last) → (first ≤ last) × (last ≤ length body)
+span_within body frn [] first last h e = absurd (let f : ◌≡◌ {A = Option (ℕ × ℕ)} None (Some (first, last)) = e in cc)
+span_within body frn (s ∷ ss) first last h e =
+    elim (cases_eq s.0 frn) [
+      | inl same ↦
+          let f : ◌≡◌ {A = Option (ℕ × ℕ)} (Some (s.1, s.2)) (Some (first, last)) = sym (ap (λ b. if b then Some (s.1, s.2) else span_of frn ss) (eq-eqb s.0 frn same)) ∙ e in
+          let pair : ◌≡◌ {A = ℕ × ℕ} (s.1, s.2) (first, last) = cc in
+          subst (λ (x : ℕ × ℕ). (x.0 ≤ x.1) × (x.1 ≤ length body)) pair h.0.1
+      | inr other ↦ span_within body frn ss first last h.1 (sym (ap (λ b. if b then Some (s.1, s.2) else span_of frn ss) (ne_eqb s.0 frn other)) ∙ e)
+    ]
+
 -- ---- the item that is found
 
 -- items, of which the first with that FRN lies there
