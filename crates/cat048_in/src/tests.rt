@@ -65,6 +65,27 @@ fn reads_each_item(rt: HostRuntime) -> Result<(), Fail> {
     Ok(())
 }
 
+// The report that docs/INTERFACE.md decodes by hand, octet by octet.
+const BY_HAND: [u8; 22] = [
+    0x30, 0x00, 0x16, 0xFD, 0x80, 0x01, 0x02, 0x46, 0x50, 0x0A, 0xA0, 0x01, 0x00, 0x40, 0x00, 0x0E,
+    0x53, 0x05, 0x78, 0x40, 0x62, 0x1D,
+];
+
+#[test]
+fn reads_the_report_decoded_by_hand(rt: HostRuntime) -> Result<(), Fail> {
+    let reports = read(rt.alloc(), &BY_HAND)?;
+    assert_eq!(rt; reports.len(), 1);
+    let plot = reports[0].plot().expect(&rt, "a plot");
+    assert_eq!(rt; (plot.sac, plot.sic, plot.tod), (1, 2, 4_608_010));
+    assert_eq!(rt; (plot.rho, plot.theta), (256, 16_384));
+    assert_eq!(rt; (plot.kind, plot.spi), (5, false));
+    assert_eq!(rt;
+        (plot.code, plot.level, plot.address),
+        (Some(0o7123), Some(1_400), Some(0x40_621D))
+    );
+    Ok(())
+}
+
 // Blocks that each have a fault, and what is told of each. The offsets are in the whole datagram.
 const FAULTY_BLOCKS: [u8; 120] = [
     0x30, 0x00, 0x04, 0x81, // the block ends behind an FSPEC octet with FX
@@ -211,7 +232,7 @@ fn takes_descriptors(rt: HostRuntime) -> Result<(), Fail> {
     Ok(())
 }
 
-// Reports that are no plots, in the order in which the reasons are told: each but the first three has all reasons that follow, and the last is a plot.
+// Reports that are no plots, in the order in which the reasons are told, each with reasons of later ones, and a plot.
 const PLOTS: [u8; 83] = [
     0x30, 0x00, 0x53, 0x40, 0x00, 0x00, 0x01, 0x80, 0x01, 0x02, 0xC0, 0x01, 0x02, 0x46, 0x50, 0x0A,
     0xD0, 0x01, 0x02, 0x46, 0x50, 0x0A, 0x01, 0x00, 0x40, 0x00, 0xF0, 0x01, 0x02, 0x46, 0x50, 0x0A,
