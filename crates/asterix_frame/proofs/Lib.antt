@@ -13,3 +13,4 @@ pub mod DataItems
 pub mod Placed
 pub mod DataRecordCodes
 pub mod Bodies
+pub mod Refusals
