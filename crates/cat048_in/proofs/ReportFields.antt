@@ -1,11 +1,9 @@
 -- A report is told by its fields, since each of its ranges has one proof.
-use Rattle.std.proofs.Common.{◌≡◌, ap, subst, ℕ, ◌≤◌, List, Option, ℤ, Bool}
+use Rattle.std.proofs.Common.{◌≡◌, ap, subst, ℕ, ◌≤◌, Option, ℤ, Bool}
 use Rattle.std.proofs.Props.{props}
 use Rattle.std.specs.Option.{ForSome}
 use Rattle.trk_base.specs.Ranges.{IsTimeOfDay, IsCode, IsLevel, IsAddress}
-use Rattle.asterix_frame.specs.Parts.{Part}
 use Rattle.cat048_in.specs.declared.report.Report.{Report}
-use Rattle.cat048_in.specs.Reports.{report_of}
 
 abbrev pub Fields : Type 0
 Fields = Option (ℕ × ℕ) × Option ℕ × Option ℕ × Bool × Bool × Bool × Bool × Option (ℕ × ℕ) × Option ℕ × Option ℤ × Option ℕ

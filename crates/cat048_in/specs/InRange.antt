@@ -1,10 +1,9 @@
 -- What an item says is in its range, whatever its octets are.
-use Rattle.std.specs.Prelude.{◌≡◌, ℕ, ◌+◌, ◌-◌, ◌*◌, ◌<◌, ◌≤◌, ◌^◌, ◌/◌, ◌%◌, nat_lt, Bool, true, false, cond, List, [], ◌∷◌, Option, Some, None, ℤ, pos, negsuc, neg_ℤ, ◌≤ℤ◌}
-use Rattle.std.proofs.Common.{refl, arith, subst, sym}
+use Rattle.std.specs.Prelude.{◌≡◌, ℕ, ◌<◌, ◌≤◌, ◌^◌, ◌%◌, Bool, true, false, cond, List, [], ◌∷◌, Option, Some, None, pos, neg_ℤ, ◌≤ℤ◌}
+use Rattle.std.proofs.Common.{arith, subst}
 use Rattle.std.specs.Option.{ForSome}
 use Rattle.trk_base.specs.Ranges.{IsTimeOfDay, IsCode, IsLevel, IsAddress}
-use Rattle.trk_base.specs.Numbers.{day}
-use Rattle.cat048_in.specs.Values.{two_octets, three_octets, signed, is_doubtful, kind_of, code_of, level_of, address_of, below_day}
+use Rattle.cat048_in.specs.Values.{two_octets, signed, is_doubtful, kind_of, code_of, level_of, address_of, below_day}
 
 -- a value that is there has the property that it has
 some_in_range : {A : Type 0} (P : A → Type 0) (y : A) → P y → ForSome (Some y) P
