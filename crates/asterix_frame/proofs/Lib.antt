@@ -8,3 +8,10 @@ pub mod Codes
 pub mod ItemCodes
 pub mod RecordCodes
 pub mod Totals
+pub mod Sequences
+pub mod DataItems
+pub mod Placed
+pub mod DataRecordCodes
+pub mod Bodies
+pub mod Refusals
+pub mod Datagrams
