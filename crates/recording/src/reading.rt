@@ -1,0 +1,63 @@
+// What is read of an input.
+ghost use Rattle.std.specs.Prelude.{◌≡◌, ◌<◌, ◌≤◌, ◌^◌, IfOk, Bool, false, true};
+ghost use Rattle.std.specs.List.{AllByRecursion};
+ghost use Rattle.recording.specs.Items.{IsItem};
+ghost use Rattle.recording.specs.Readings.{Reads, IsReading, IsReadingOfFront};
+ghost use Rattle.recording.specs.Answers.{items_of};
+ghost use Rattle.std.specs.Prelude.{length};
+
+use crate::Item;
+use crate::raw::read_raw;
+use crate::recorded::{HeaderFault, header_of, items_in};
+use std::alloc::Global;
+use trk_base::NoMemory;
+
+/// What an input is.
+#[derive(Drop)]
+pub struct Reading<'a> {
+    /// The time it starts at, in 1/128 s; 0 where it has none.
+    pub start: u64,
+    /// The items before the first fault, in order.
+    pub items: Vec<Item<'a>>,
+    /// The offset of the first fault, if there is one.
+    pub fault: Option<usize>,
+}
+
+/// The start, the items and the first fault of an input.
+pub fn read_recording(alloc: Global, bytes: &[u8]) -> Result<Reading<'_>, NoMemory>
+    ensures reads { IfOk result (λ r. IsReading bytes.now r.start (items_of r.items.items) r.fault) }
+{
+    read(alloc, bytes, false)
+}
+
+/// The start, the items and the first fault of the front of an input that goes on behind it.
+pub fn read_front(alloc: Global, bytes: &[u8]) -> Result<Reading<'_>, NoMemory>
+    requires header { 9 ≤ length bytes.now }
+    ensures reads { IfOk result (λ r. IsReadingOfFront bytes.now r.start (items_of r.items.items) r.fault) }
+{
+    read(alloc, bytes, true)
+}
+
+// The same, of octets that go on behind their end or don't.
+fn read(alloc: Global, bytes: &[u8], goes_on: bool) -> Result<Reading<'_>, NoMemory>
+    ensures { IfOk result (λ r. Reads bytes.now goes_on r.start (items_of r.items.items) r.fault) }
+{
+    match header_of(bytes) {
+        Ok((start, behind)) => {
+            let written = items_in(alloc, behind)?;
+            let place = bytes.len() - behind.len() + written.place;
+            let fault = written.ending.fault(goes_on, place, bytes.len());
+            Ok(Reading {
+                start,
+                items: written.things,
+                fault,
+            })
+        }
+        Err(HeaderFault::CutShort) => Ok(Reading {
+            start: 0,
+            items: Vec::new(alloc),
+            fault: Some(4),
+        }),
+        Err(HeaderFault::Unmarked) => read_raw(alloc, bytes, goes_on),
+    }
+}
