@@ -26,8 +26,11 @@ abbrev pub start_at : List ℕ → ℕ
 start_at [] = 0
 start_at (time ∷ times) = whole_seconds time
 
+abbrev pub all_times : List TimedBlock → List ℕ
+all_times bs = flat_map (λ b. b.times) bs
+
 abbrev pub start_of : List TimedBlock → ℕ
-start_of bs = start_at (flat_map (λ b. b.times) bs)
+start_of bs = start_at (all_times bs)
 
 -- the greatest of the times of day, counted on over midnights by the last tick
 abbrev pub latest : ℕ → List ℕ → ℕ

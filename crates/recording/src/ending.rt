@@ -27,12 +27,3 @@ impl Ending {
         }
     }
 }
-
-/// Whole things that octets begin with, and how these end.
-#[derive(Drop)]
-pub(crate) struct Written<T: Drop> {
-    pub things: Vec<T>,
-    pub ending: Ending,
-    /// Where the ending stands.
-    pub place: usize,
-}

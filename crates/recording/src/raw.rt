@@ -1,9 +1,96 @@
 // The raw form: data blocks alone.
-use crate::reading::Reading;
-use std::alloc::Global;
-use trk_base::NoMemory;
+ghost use Rattle.std.specs.Prelude.{◌≡◌, ◌≢◌, ◌<◌, ◌≤◌, ◌^◌, ◌+◌, ◌∷◌, [], ◌++◌, ◌×◌, ℕ, List, All, Some, None, IfOk, IfSome, OnOk};
+ghost use Rattle.std.specs.List.{AllByRecursion};
+ghost use Rattle.trk_base.specs.Numbers.{day};
+ghost use Rattle.asterix_frame.specs.Blocks.{BeginsNone, spelled};
+ghost use Rattle.recording.specs.Blocks.{BlocksEnd};
+ghost use Rattle.recording.specs.Raw.{TimedBlock, closing, latest, tick_at, tick_before, whole_seconds};
+ghost use Rattle.recording.specs.Playing.{HasPlayed, IsPlayed, PlaysAll};
+ghost use Rattle.recording.specs.Readings.{IsRaw, mark};
+ghost use Rattle.recording.specs.Answers.{items_of};
+ghost use Rattle.recording.specs.Times.{HasTimes};
 
-pub(crate) fn read_raw(alloc: Global, bytes: &[u8], goes_on: bool) -> Result<Reading<'_>, NoMemory>
+use crate::Item;
+use crate::ending::Ending;
+use crate::reading::Reading;
+use crate::times::times_of;
+use asterix_frame::first_block;
+use std::alloc::Global;
+use trk_base::{NoMemory, unwrap_tod};
+
+/// The units of time, of 1/128 s, in a second.
+const SECOND: u64 = 128;
+/// No tick is as late as this, in 1/128 s.
+const TICK_END: u64 = 1 << 40;
+
+/// What the times of day in the blocks so far say of the time, in 1/128 s.
+#[derive(Clone, Copy)]
+pub(crate) struct Clock {
+    /// The first time of day, in whole seconds.
+    start: u64,
+    /// The last tick, or the start.
+    last: u64,
+}
+
+/// The items of blocks that are taken one after the other.
+#[derive(Drop)]
+pub(crate) struct Player<'a> {
+    /// None until the first time of day.
+    clock: Option<Clock>,
+    items: Vec<Item<'a>>,
+}
+
+// The start and the last tick, where a time of day has come.
+fn clock_with(clock: Option<Clock>, times: &[u32]) -> Option<Clock>
 {
-    Ok(Reading { start: 0, items: Vec::new(alloc), fault: None })
+    if clock.is_some() {
+        return clock;
+    }
+    let first = times.first()?;
+    let start = u64::from(*first) / SECOND * SECOND;
+    Some(Clock { start, last: start })
+}
+
+// The latest of the times of day, counted on over midnights by the last tick.
+fn latest_of(last: u64, times: &[u32]) -> u64
+    requires last { last < 2 ^ 40 }
+    requires times { All (λ tod. tod < day) times.now }
+    ensures { result ≡ latest last times.now }
+{
+    let mut latest = 0;
+    for tod in times {
+        latest = unwrap_tod(*tod, last).max(latest);
+    }
+    latest
+}
+
+// The time, if a tick can have it.
+fn tick_at(time: u64) -> Option<u64>
+    ensures { result ≡ tick_at time }
+{
+    if time < TICK_END { Some(time) } else { None }
+}
+
+// The tick before a block with these times of day.
+fn tick_before(last: u64, times: &[u32]) -> Option<u64>
+    requires last { last < 2 ^ 40 }
+    requires times { All (λ tod. tod < day) times.now }
+    ensures { result ≡ tick_before last times.now }
+{
+    let latest = latest_of(last, times);
+    if latest < last + SECOND {
+        return None;
+    }
+    tick_at(latest / SECOND * SECOND)
+}
+
+// Why no block begins where one should.
+fn no_block(octets: &[u8]) -> Ending
+    requires { (inside : ℕ) × (cause : ℕ) × BeginsNone octets.now inside cause }
+    ensures { BlocksEnd result octets.now }
+{
+    match octets {
+        [_, 0, 0..=2, ..] => Ending::Other,
+        _ => Ending::Cut,
+    }
 }

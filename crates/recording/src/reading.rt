@@ -49,7 +49,7 @@ fn read(alloc: Global, bytes: &[u8], goes_on: bool) -> Result<Reading<'_>, NoMem
             let fault = written.ending.fault(goes_on, place, bytes.len());
             Ok(Reading {
                 start,
-                items: written.things,
+                items: written.items,
                 fault,
             })
         }

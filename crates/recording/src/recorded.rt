@@ -6,7 +6,7 @@ ghost use Rattle.recording.specs.Readings.{header, mark};
 ghost use Rattle.recording.specs.Answers.{item_of, items_of};
 
 use crate::Item;
-use crate::ending::{Ending, Written};
+use crate::ending::Ending;
 use std::alloc::Global;
 use trk_base::NoMemory;
 
@@ -87,10 +87,19 @@ fn first_item(octets: &[u8]) -> Result<(Item<'_>, &[u8]), Ending>
     }
 }
 
-/// The whole items that the octets begin with, and how these end.
-pub(crate) fn items_in(alloc: Global, octets: &[u8]) -> Result<Written<Item<'_>>, NoMemory>
-    ensures items { IfOk result (λ w. AreItems octets.now (items_of w.things.items) w.ending) }
-    ensures place { IfOk result (λ w. w.place ≡ length (flat_map spelled (items_of w.things.items))) }
+/// The whole items that octets begin with, and how these end.
+#[derive(Drop)]
+pub(crate) struct Written<'a> {
+    pub items: Vec<Item<'a>>,
+    pub ending: Ending,
+    /// Where the ending stands.
+    pub place: usize,
+}
+
+/// Reads items up to what begins none.
+pub(crate) fn items_in(alloc: Global, octets: &[u8]) -> Result<Written<'_>, NoMemory>
+    ensures items { IfOk result (λ w. AreItems octets.now (items_of w.items.items) w.ending) }
+    ensures place { IfOk result (λ w. w.place ≡ length (flat_map spelled (items_of w.items.items))) }
 {
     let mut items = Vec::new(alloc);
     let mut rest = octets;
@@ -102,7 +111,7 @@ pub(crate) fn items_in(alloc: Global, octets: &[u8]) -> Result<Written<Item<'_>>
             }
             Err(ending) => {
                 return Ok(Written {
-                    things: items,
+                    items,
                     ending,
                     place: octets.len() - rest.len(),
                 });
@@ -110,7 +119,7 @@ pub(crate) fn items_in(alloc: Global, octets: &[u8]) -> Result<Written<Item<'_>>
         }
     }
     Ok(Written {
-        things: items,
+        items,
         ending: Ending::Nothing,
         place: octets.len(),
     })
