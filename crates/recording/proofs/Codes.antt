@@ -139,5 +139,5 @@ front_push {T} {Fits} {spelled} octets rest next xs x h fits e =
     record {
       fit = all_push Fits xs x h.fit fits;
       whole = h.whole ∙ ap (λ t. flat_map spelled xs ++ t) e ∙ sym (append_assoc (flat_map spelled xs) (spelled x) next)
-        ∙ ap (λ t. t ++ next) (ap (λ t. flat_map spelled xs ++ t) (sym (append-nil (spelled x))) ∙ sym (flat_map-append spelled xs (x ∷ [])));
+          ∙ ap (λ t. t ++ next) (ap (λ t. flat_map spelled xs ++ t) (sym (append-nil (spelled x))) ∙ sym (flat_map-append spelled xs (x ∷ [])));
     }

@@ -1,2 +1,3 @@
+pub mod BlockOctets
 pub mod Codes
 pub mod Octets

@@ -6,10 +6,16 @@ use Rattle.recording.specs.declared.ending.Ending.{Ending}
 use Rattle.recording.specs.declared.raw.Clock.{Clock}
 use Rattle.recording.specs.declared.raw.Player.{Player}
 use Rattle.recording.specs.Blocks.{AreBlocks}
-use Rattle.recording.specs.Raw.{TimedBlock, all_times, blocks_of, start_of, items_from, last_from}
+use Rattle.recording.specs.Raw.{TimedBlock, all_times, blocks_of, start_of, items_from, last_from, whole_seconds}
 use Rattle.recording.specs.Items as items
 use Rattle.recording.specs.Times.{HasTimes}
 use Rattle.recording.specs.Answers.{items_of}
+
+-- It begins with the first time of day, in whole seconds.
+abbrev pub clock_with : Option Clock → List ℕ → Option Clock
+clock_with (Some clock) times = Some clock
+clock_with None [] = None
+clock_with None (time ∷ times) = Some (record { start = whole_seconds time; last = whole_seconds time })
 
 -- The clock began at the first time of day, and stands at the last tick.
 pub record Started (bs : List TimedBlock) (clock : Clock) (played : List items.Item) : Type 0 where

@@ -53,6 +53,12 @@ pub record IsRaw (octets : List ℕ) (goes_on : Bool) (start : ℕ) (items : Lis
 abbrev pub Reads : List ℕ → Bool → ℕ → List Item → Option ℕ → Type 0
 Reads octets goes_on start items fault = IsRecording octets goes_on start items fault ⊎ (HasNoStart octets start items fault ⊎ IsRaw octets goes_on start items fault)
 
+pub record HasReading (octets : List ℕ) (goes_on : Bool) : Type 0 where
+  pub start : ℕ
+  pub items : List Item
+  pub fault : Option ℕ
+  pub reading : Reads octets goes_on start items fault
+
 -- an input
 abbrev pub IsReading : List ℕ → ℕ → List Item → Option ℕ → Type 0
 IsReading octets = Reads octets false

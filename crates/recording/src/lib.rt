@@ -10,11 +10,11 @@ mod laws;
 mod raw;
 mod reading;
 mod recorded;
+mod times;
 mod writing;
 
 pub use ending::Ending;
 pub use item::Item;
-pub use laws::one_reading;
+pub use laws::{front_fault, one_reading, reads_back};
 pub use reading::{Reading, read_front, read_recording};
 pub use writing::{write_item, write_start};
-

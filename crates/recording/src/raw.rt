@@ -1,11 +1,11 @@
 // The raw form: data blocks alone.
-ghost use Rattle.std.specs.Prelude.{◌≡◌, ◌≢◌, ◌<◌, ◌≤◌, ◌^◌, ◌+◌, ◌∷◌, [], ◌++◌, ◌×◌, ℕ, List, All, Some, None, IfOk, IfSome, OnOk};
+ghost use Rattle.std.specs.Prelude.{◌≡◌, ◌≢◌, ◌<◌, ◌≤◌, ◌^◌, ◌+◌, ◌∷◌, [], ◌++◌, ℕ, List, All, Some, None, IfOk, IfSome, OnOk};
 ghost use Rattle.std.specs.List.{AllByRecursion};
 ghost use Rattle.trk_base.specs.Numbers.{day};
 ghost use Rattle.asterix_frame.specs.Blocks.{BeginsNone, spelled};
 ghost use Rattle.recording.specs.Blocks.{BlocksEnd};
-ghost use Rattle.recording.specs.Raw.{TimedBlock, closing, latest, tick_at, tick_before, whole_seconds};
-ghost use Rattle.recording.specs.Playing.{HasPlayed, IsPlayed, PlaysAll};
+ghost use Rattle.recording.specs.Raw.{TimedBlock, latest, tick_at, tick_before};
+ghost use Rattle.recording.specs.Playing.{HasPlayed, PlaysAll, clock_with};
 ghost use Rattle.recording.specs.Readings.{IsRaw, mark};
 ghost use Rattle.recording.specs.Answers.{items_of};
 ghost use Rattle.recording.specs.Times.{HasTimes};
@@ -42,6 +42,10 @@ pub(crate) struct Player<'a> {
 
 // The start and the last tick, where a time of day has come.
 fn clock_with(clock: Option<Clock>, times: &[u32]) -> Option<Clock>
+    requires in_range { IfSome clock (λ c. c.last < 2 ^ 40) }
+    requires times { All (λ tod. tod < day) times.now }
+    ensures clock { result ≡ clock_with clock times.now }
+    ensures in_range { IfSome result (λ c. c.last < 2 ^ 40) }
 {
     if clock.is_some() {
         return clock;
@@ -93,4 +97,90 @@ fn no_block(octets: &[u8]) -> Ending
         [_, 0, 0..=2, ..] => Ending::Other,
         _ => Ending::Cut,
     }
+}
+
+impl<'a> Player<'a> {
+    // Takes a block with these times of day: the tick before it, and its octets.
+    fn take(&mut self, octets: &'a [u8], times: &[u32]) -> Result<(), NoMemory>
+        requires in_range { IfSome self.old.clock (λ c. c.last < 2 ^ 40) }
+        requires times { All (λ tod. tod < day) times.now }
+        ensures played { OnOk result ((bs : List TimedBlock) (b : TimedBlock) → b.times ≡ times.now → spelled b.block ≡ octets.now → HasPlayed bs self.old → HasPlayed (bs ++ b ∷ []) self.new) }
+        ensures in_range { OnOk result (IfSome self.new.clock (λ c. c.last < 2 ^ 40)) }
+    {
+        self.clock = clock_with(self.clock, times);
+        if let Some(clock) = &mut self.clock {
+            if let Some(tick) = tick_before(clock.last, times) {
+                self.items.push(Item::Tick(tick))?;
+                clock.last = tick;
+            }
+        }
+        self.items.push(Item::Datagram {
+            feed: 0,
+            bytes: octets,
+        })?;
+        Ok(())
+    }
+}
+
+/// The blocks that octets begin with, as they are played, and how the octets end.
+#[derive(Drop)]
+struct Played<'a> {
+    player: Player<'a>,
+    ending: Ending,
+    /// Where the ending stands.
+    place: usize,
+}
+
+// Plays blocks up to what begins none.
+fn play(alloc: Global, bytes: &[u8]) -> Result<Played<'_>, NoMemory>
+    ensures all { IfOk result (λ p. PlaysAll bytes.now p.player p.ending p.place) }
+    ensures in_range { IfOk result (λ p. IfSome p.player.clock (λ c. c.last < 2 ^ 40)) }
+{
+    let mut player = Player {
+        clock: None,
+        items: Vec::new(alloc),
+    };
+    let mut from = 0;
+    while from < bytes.len() {
+        let Ok(block) = first_block(bytes, from) else {
+            let ending = no_block(&bytes[from..]);
+            return Ok(Played {
+                player,
+                ending,
+                place: from,
+            });
+        };
+        let times = times_of(alloc, &block)?;
+        player.take(&bytes[from..block.end()], &times)?;
+        from = block.end();
+    }
+    Ok(Played {
+        player,
+        ending: Ending::Nothing,
+        place: from,
+    })
+}
+
+/// Reads octets of the raw form.
+pub(crate) fn read_raw(alloc: Global, bytes: &[u8], goes_on: bool) -> Result<Reading<'_>, NoMemory>
+    requires unmarked { (rest : List ℕ) → bytes.now ≢ mark ++ rest }
+    ensures { IfOk result (λ r. IsRaw bytes.now goes_on r.start (items_of r.items.items) r.fault) }
+{
+    let Played {
+        player: Player { clock, mut items },
+        ending,
+        place,
+    } = play(alloc, bytes)?;
+    let fault = ending.fault(goes_on, place, bytes.len());
+    let Clock { start, last } = clock.unwrap_or(Clock { start: 0, last: 0 });
+    if fault.is_none() && !items.is_empty() {
+        if let Some(tick) = tick_at(last + SECOND) {
+            items.push(Item::Tick(tick))?;
+        }
+    }
+    Ok(Reading {
+        start,
+        items,
+        fault,
+    })
 }
