@@ -18,3 +18,6 @@ pub use item::Item;
 pub use laws::{front_fault, one_reading, reads_back};
 pub use reading::{Reading, read_front, read_recording};
 pub use writing::{write_item, write_start};
+
+#[cfg(test)]
+mod tests;
