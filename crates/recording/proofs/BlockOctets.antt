@@ -3,7 +3,7 @@ use Rattle.std.proofs.Common.{◌≡◌, ◌∙◌, ap, sym, refl, subst, inl, i
 use Rattle.std.specs.Int.{w16, to_be_bytes}
 use Rattle.std.proofs.lemmas.Bool.{cases_lt}
 use Rattle.std.proofs.lemmas.List.{length-take-le, take-append-drop}
-use Rattle.asterix_frame.specs.Blocks.{DataBlock, IsDataBlock, spelled}
+use Rattle.asterix_frame.specs.Blocks.{DataBlock, IsDataBlock, BeginsNone, spelled}
 use Rattle.asterix_frame.proofs.Heads.{same_block, two_octets}
 use Rattle.recording.specs.Blocks.{IsNoBlock, IsCutBlock}
 use Rattle.recording.proofs.Codes.{IsCode, IsBytes, Begins, Decides}
@@ -76,3 +76,14 @@ no_block_first b more fits h = omega (arith, fits, h)
 
 pub blocks_code : IsCode DataBlock IsDataBlock spelled IsNoBlock
 blocks_code = record { some = spelled_some; same = same_block; other_some = no_block; goes_on = no_block_on; none = no_block_first }
+
+-- where no block begins, and no length is too small
+pub cut_at : (octets : List ℕ) (inside cause : ℕ) → IsBytes octets → BeginsNone octets inside cause → (3 ≤ length octets → 3 ≤ 256 * get_or octets 1 0 + get_or octets 2 0) → IsCutBlock octets
+cut_at [] inside cause bytes none big = absurd none
+cut_at (a ∷ []) inside cause bytes none big = cut_one a
+cut_at (a ∷ b ∷ []) inside cause bytes none big = cut_two a b (bytes 1)
+cut_at (a ∷ b ∷ c ∷ rest) inside cause bytes none big =
+    elim none.2 [
+      | inl small ↦ absurd (omega (arith, small, big (omega arith)))
+      | inr far ↦ cut_body a b c rest (bytes 1) (bytes 2) (big (omega arith)) far
+    ]

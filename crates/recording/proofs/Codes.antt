@@ -130,7 +130,7 @@ pub record FrontOf (T : Type 0) (Fits : T → Type 0) (spelled : T → List ℕ)
   pub fit : AllByRecursion Fits things
   pub whole : octets ≡ flat_map spelled things ++ rest
 
-all_push : {T : Type 0} (Fits : T → Type 0) (xs : List T) (x : T) → AllByRecursion Fits xs → Fits x → AllByRecursion Fits (xs ++ x ∷ [])
+pub all_push : {T : Type 0} (Fits : T → Type 0) (xs : List T) (x : T) → AllByRecursion Fits xs → Fits x → AllByRecursion Fits (xs ++ x ∷ [])
 all_push Fits [] x h fits = (fits, tt)
 all_push Fits (y ∷ ys) x h fits = (h.0, all_push Fits ys x h.1 fits)
 

@@ -1,3 +1,5 @@
 pub mod BlockOctets
 pub mod Codes
 pub mod Octets
+pub mod Played
+pub mod Playing
