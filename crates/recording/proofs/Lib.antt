@@ -1,4 +1,5 @@
 pub mod BlockOctets
+pub mod BlockTimes
 pub mod Codes
 pub mod Octets
 pub mod Played
