@@ -9,3 +9,8 @@ pub mod ItemCodes
 pub mod RecordCodes
 pub mod Totals
 pub mod Sequences
+pub mod DataItems
+pub mod Placed
+pub mod DataRecordCodes
+pub mod Bodies
+pub mod Refusals
