@@ -1,10 +1,10 @@
 -- The times of day of a block's records.
-use Rattle.std.proofs.Common.{◌≡◌, ◌∙◌, ap, sym, refl, subst, ℕ, ◌+◌, ◌<◌, ◌≢◌, List, [], ◌∷◌, All, inl, inr}
+use Rattle.std.proofs.Common.{◌≡◌, ◌∙◌, ap, sym, refl, subst, ℕ, ◌+◌, ◌<◌, ◌≢◌, List, [], ◌∷◌, ◌++◌, All, inl, inr}
 use Rattle.std.specs.Prelude.{Option, Some, None, IfSome, if◌then◌else◌}
 use Rattle.std.specs.Option.{option_and_then}
 use Rattle.std.specs.List.{filter_map, cons_option, AllByRecursion}
 use Rattle.std.proofs.lemmas.Bool.Decides.{eqb_tells}
-use Rattle.std.proofs.lemmas.List.Elements.{All-from_recursion}
+use Rattle.std.proofs.lemmas.List.Elements.{All-from_recursion, filter_map-append}
 use Rattle.trk_base.specs.Numbers.{day}
 use Rattle.asterix_frame.specs.declared.tables.Uap.{Uap}
 use Rattle.asterix_frame.specs.declared.block.Block.{Block}
@@ -64,3 +64,8 @@ times_none uap block m read category h =
 
 pub times_other : (block : Block) → block.cat ≢ 34 → block.cat ≢ 48 → IsDataBlock (data_block block) → HasTimes (record { block = data_block block; times = [] })
 times_other block a b fits = whole (datagrams.other block.cat block.body.now) (a, b, fits) refl refl
+
+-- one more, where there is one
+pub times_more : {X : Type 0} (h : X → Option ℕ) (xs ys : List X) (x : X) (time : Option ℕ) (times times' : List ℕ) → ys ≡ xs ++ x ∷ [] → times ≡ filter_map h xs → h x ≡ time → times' ≡ times ++ cons_option time [] → times' ≡ filter_map h ys
+times_more h xs ys x time times times' e so_far found pushed =
+    pushed ∙ (λ i. so_far i ++ cons_option (sym found i) []) ∙ sym (ap (filter_map h) e ∙ filter_map-append h xs (x ∷ []))
