@@ -104,7 +104,7 @@ module _ (uap : Uap) where
         | inr (p, c, f) ↦ inr (p, c, record { front = f.front; rest = f.rest; inside = f.inside; are_records = f.all; whole = f.whole; none = f.none; place_is = f.place_is })
       ]
 
--- ---- one record
+  -- ---- one record
 
   -- the walk's answer as that of a record
   record_at : (body : List ℕ) (from offset : ℕ) (s : ItemSpans) → Taken uap body from offset s.frns.items s.next → (r : DataRecord) × HasDataRecord uap body from r s

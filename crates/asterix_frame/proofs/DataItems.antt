@@ -104,3 +104,25 @@ module _ (uap : Uap) where
         | inl same ↦ (record { whole = h.0; in_day = λ _. subst (λ o. IfSome (option_and_then time_in o) (λ t. t < day)) (item_here (time_frn uap) p ps same) t }, behind ps h.1 (subst (λ k. Rise k (numbers ps)) same r.1))
         | inr other ↦ (other_item p other h.0, judged ps (p.number + 1) h.1 r.1 (subst (λ o. IfSome (option_and_then time_in o) (λ t. t < day)) (item_later (time_frn uap) p ps other) t))
       ]
+
+  -- ---- what a reader asks
+
+  -- what holds of each item holds of the one that is found
+  pub item_holds : (P : ℕ → List ℕ → Type 0) (frn : ℕ) (items : List Part) (octets : List ℕ) → AllByRecursion (λ p. P p.number p.octets) items → item frn items ≡ Some octets → (n : ℕ) × (n + 1 ≡ frn) × P n octets
+  item_holds P frn [] octets h e = absurd (let f : ◌≡◌ {A = Option (List ℕ)} None (Some octets) = e in cc)
+  item_holds P frn (p ∷ ps) octets h e =
+      elim (cases_eq (p.number + 1) frn) [
+        | inl same ↦
+            let f : ◌≡◌ {A = Option (List ℕ)} (Some p.octets) (Some octets) = sym (item_here frn p ps same) ∙ e in
+            let is : p.octets ≡ octets = cc in
+            (p.number, same, subst (λ o. P p.number o) is h.0)
+        | inr other ↦ item_holds P frn ps octets h.1 (sym (item_later frn p ps other) ∙ e)
+      ]
+
+  time_at : (items : List Part) → AreDataItems items → (o : Option (List ℕ)) → item (time_frn uap) items ≡ o → IfSome (option_and_then time_in o) (λ t. t < day)
+  time_at items h None e = tt
+  time_at items h (Some octets) e = let found = item_holds (λ n o. IsDataItem uap n o) (time_frn uap) items octets h e in found.2.in_day found.1
+
+  -- the time of day of a record is below a day
+  pub time_in_day : (items : List Part) → AreDataItems items → IfSome (time_of uap items) (λ t. t < day)
+  time_in_day items h = time_at items h (item (time_frn uap) items) refl

@@ -14,3 +14,4 @@ pub mod Placed
 pub mod DataRecordCodes
 pub mod Bodies
 pub mod Refusals
+pub mod Datagrams

@@ -18,8 +18,8 @@ returns-in_err-one-clause-reads c = λ rs is.
     let p = err_from_is_err_and c.from_residual.result c.from_residual.ensures.1 in
     rw (p.1, p.2) (passes_reads ItemSpans (Vec ItemSpans) (IsFaultFrom c.args.uap c.args.block.now c.loop-from.from) c.in_err-one.field-0.0 (λ v. HaveDataRecords c.args.uap c.args.block.now.body.now 0 rs v.items) c.in_err-one.ensures.malformed
     (λ m h.
-        let f = so_far_fault c.args.uap c.args.block.now c.loop-from.from c.loop-from.found.items m c.loop-from.invariant h in
-        not_both c.args.uap c.args.block.now.body.now rs f.place m.cause is f.fault))
+    let f = so_far_fault c.args.uap c.args.block.now c.loop-from.from c.loop-from.found.items m c.loop-from.invariant h in
+    not_both c.args.uap c.args.block.now.body.now rs f.place m.cause is f.fault))
 
 pub returns-in_err-one-clause-refuses : goal.returns-in_err-one-clause-refuses
 returns-in_err-one-clause-refuses c = λ m other.
