@@ -91,6 +91,6 @@ raw_read octets goes_on p ending place fault k items unmarked h fault_is k_is it
       start_is = ap (λ k. k.start) k_is ∙ at.0;
       fault_is = fault_is ∙ ap (λ n. fault_of ending goes_on n (length octets)) h.place_is;
       items_are = items_are
-        ∙ (λ i. at.1 i ++ ticks (closing_tick p.items.items (last i) fault))
-        ∙ ap (λ t. items_from (start_of h.blocks) h.blocks ++ t) (sym (closing_same h.blocks p.items.items fault at.1));
+          ∙ (λ i. at.1 i ++ ticks (closing_tick p.items.items (last i) fault))
+          ∙ ap (λ t. items_from (start_of h.blocks) h.blocks ++ t) (sym (closing_same h.blocks p.items.items fault at.1));
     }

@@ -89,8 +89,8 @@ waiting bs b played e w =
     record {
       none = times_push bs b ∙ (λ i. w.none i ++ e i);
       items = λ last.
-        let still : tick_before (last_from last bs) b.times ≡ None = ap (tick_before (last_from last bs)) e ∙ no_tick (last_from last bs) in
-        (λ i. w.items last i ++ (ticks (sym still i) ++ datagram 0 (spelled b.block) ∷ [])) ∙ sym (items_push last bs b);
+          let still : tick_before (last_from last bs) b.times ≡ None = ap (tick_before (last_from last bs)) e ∙ no_tick (last_from last bs) in
+          (λ i. w.items last i ++ (ticks (sym still i) ++ datagram 0 (spelled b.block) ∷ [])) ∙ sym (items_push last bs b);
     }
 
 -- one more block

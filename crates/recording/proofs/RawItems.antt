@@ -37,8 +37,8 @@ items_fit : (last : ℕ) (bs : List TimedBlock) → AllByRecursion IsDataBlock (
 items_fit last [] h = tt
 items_fit last (b ∷ bs) h =
     all_append (ticks (tick_before last b.times)) (datagram 0 (spelled b.block) ∷ items_from (last_tick last (tick_before last b.times)) bs)
-      (ticks_fit (tick_before last b.times) (before_fits last b.times))
-      ((omega arith, omega (arith, h.0)), items_fit (last_tick last (tick_before last b.times)) bs h.1)
+    (ticks_fit (tick_before last b.times) (before_fits last b.times))
+    ((omega arith, omega (arith, h.0)), items_fit (last_tick last (tick_before last b.times)) bs h.1)
 
 closing_fits : (bs : List TimedBlock) (fault : Option ℕ) → AllByRecursion IsItem (closing bs fault)
 closing_fits [] fault = tt

@@ -42,7 +42,10 @@ fn summary(alloc: Global, bytes: &[u8]) -> Option<(u64, usize, Option<usize>)> {
 fn tells_the_first_fault(rt: HostRuntime) {
     let alloc = rt.alloc();
     // A tick cut short, a header cut short, and a record that is neither a tick nor a datagram.
-    assert_eq!(rt; summary(alloc, &RECORDING[..32]), Some((4_608_000, 1, Some(27))));
+    assert_eq!(rt;
+        summary(alloc, &RECORDING[..32]),
+        Some((4_608_000, 1, Some(27)))
+    );
     assert_eq!(rt; summary(alloc, &RECORDING[..8]), Some((0, 0, Some(4))));
     let other = [0x4D, 0x52, 0x54, 0x31, 0x00, 0x00, 0x46, 0x50, 0x00, 0x03];
     assert_eq!(rt; summary(alloc, &other), Some((4_608_000, 0, Some(9))));
@@ -111,7 +114,13 @@ fn writes_a_recording(rt: HostRuntime) -> Result<(), Fail> {
         bytes: &REPORT,
     };
     assert_eq!(rt; write_start(4_608_000).as_slice(), &RECORDING[..9]);
-    assert_eq!(rt; write_item(rt.alloc(), &datagram)?.as_slice(), &RECORDING[9..27]);
-    assert_eq!(rt; write_item(rt.alloc(), &Item::Tick(4_608_128))?.as_slice(), &RECORDING[27..]);
+    assert_eq!(rt;
+        write_item(rt.alloc(), &datagram)?.as_slice(),
+        &RECORDING[9..27]
+    );
+    assert_eq!(rt;
+        write_item(rt.alloc(), &Item::Tick(4_608_128))?.as_slice(),
+        &RECORDING[27..]
+    );
     Ok(())
 }

@@ -44,12 +44,7 @@ pub(crate) fn times_of(alloc: Global, block: &Block<'_>) -> Result<Vec<u32>, NoM
 }
 
 // The times of day of a body's records.
-fn times_in(
-    alloc: Global,
-    uap: Uap,
-    body: &[u8],
-    found: &[ItemSpans],
-) -> Result<Vec<u32>, NoMemory>
+fn times_in(alloc: Global, uap: Uap, body: &[u8], found: &[ItemSpans]) -> Result<Vec<u32>, NoMemory>
     requires { All (AreSpans body.now) found.now }
     ensures { IfOk result (λ v. v.items ≡ filter_map (λ s. time_of uap (parts_at body.now s.frns.items)) found.now) }
 {

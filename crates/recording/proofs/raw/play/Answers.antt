@@ -21,5 +21,5 @@ loop-from-preserved c =
       within = omega (arith, c.end-from.ensures, found.within);
       in_range = c.in_ok-take.ensures.in_range;
       progress = progress_more bytes from next c.loop-from.player c.take.new.self b c.loop-from.invariant.progress found.fits c.in_ok-times.ensures.times octets to
-        (λ bs h. c.in_ok-take.ensures.played bs b (search rules) (sym cut ∙ search rules) h);
+          (λ bs h. c.in_ok-take.ensures.played bs b (search rules) (sym cut ∙ search rules) h);
     }

@@ -16,12 +16,12 @@ loop-spans-preserved c =
     elim c.match-time_of_day.branch [
       | in-Some+in_ok-push w ↦ record {
         so_far = times_more (λ s. time_of c.args.uap (parts_at c.args.body.now s.frns.items)) (take at found) (take (at + 1) found) c.spans-item.result (Some w.in-Some.time) times c.match-time_of_day.times.items more so_far
-          (sym c.time_of_day.ensures ∙ w.in-Some.is)
-          (ap (λ v. v.items) w.times-is ∙ w.in_ok-push.ensures.items);
+            (sym c.time_of_day.ensures ∙ w.in-Some.is)
+            (ap (λ v. v.items) w.times-is ∙ w.in_ok-push.ensures.items);
       }
       | in_default w ↦ record {
         so_far = times_more (λ s. time_of c.args.uap (parts_at c.args.body.now s.frns.items)) (take at found) (take (at + 1) found) c.spans-item.result None times c.match-time_of_day.times.items more so_far
-          (sym c.time_of_day.ensures ∙ w.in_default.is)
-          (ap (λ v. v.items) w.times-is ∙ sym (append-nil times));
+            (sym c.time_of_day.ensures ∙ w.in_default.is)
+            (ap (λ v. v.items) w.times-is ∙ sym (append-nil times));
       }
     ]

@@ -17,8 +17,8 @@ returns-clause-played c = λ bs b e o h.
     let tick-is : c.tick_of-tick.result ≡ tick_of (clock_with old.clock times) times = c.tick_of-tick.ensures.tick ∙ ap (λ k. tick_of k times) clock-is in
     let behind : c.clock_behind-self.result ≡ clock_behind (clock_with old.clock times) (tick_of (clock_with old.clock times) times) = c.clock_behind-self.ensures.clock ∙ (λ i. clock_behind (clock-is i) (tick-is i)) in
     let items-are = ap items_of c.in_ok-push.ensures.items
-      ∙ map-append item_of c.push_tick.new.items.items (Datagram 0 octets ∷ [])
-      ∙ (λ i. (c.in_ok-push_tick.ensures ∙ ap (λ t. items_of old.items.items ++ ticks t) tick-is) i ++ datagram 0 (sym o i) ∷ [])
-      ∙ append_assoc (items_of old.items.items) (ticks (tick_of (clock_with old.clock times) times)) _ in
+    ∙ map-append item_of c.push_tick.new.items.items (Datagram 0 octets ∷ [])
+    ∙ (λ i. (c.in_ok-push_tick.ensures ∙ ap (λ t. items_of old.items.items ++ ticks t) tick-is) i ++ datagram 0 (sym o i) ∷ [])
+    ∙ append_assoc (items_of old.items.items) (ticks (tick_of (clock_with old.clock times) times)) _ in
     subst (λ k. IsPlayed (bs ++ b ∷ []) k (items_of c.push.new.self.items)) (sym behind)
-      (subst (λ t. IsPlayed (bs ++ b ∷ []) (clock_behind (clock_with old.clock times) (tick_of (clock_with old.clock times) times)) t) (sym items-are) (played_more bs b old.clock times (items_of old.items.items) e h))
+    (subst (λ t. IsPlayed (bs ++ b ∷ []) (clock_behind (clock_with old.clock times) (tick_of (clock_with old.clock times) times)) t) (sym items-are) (played_more bs b old.clock times (items_of old.items.items) e h))
