@@ -57,6 +57,12 @@ records_same (r ∷ rs) (q ∷ qs) hr hq e =
 pub builds_same : (rs qs : List Report) (octets : List ℕ) → IsBuilt octets rs → IsBuilt octets qs → rs ≡ qs
 builds_same rs qs octets h k = records_same rs qs h.each k.each (body_same qs (flat_map record_of rs) (sym h.whole ∙ k.whole))
 
+ticks_same : (t u : ℕ) → tick t ≡ tick u → t ≡ u
+ticks_same t u e = cc
+
+datagrams_same : (f g : ℕ) (o p : List ℕ) → datagram f o ≡ datagram g p → (f ≡ g) × (o ≡ p)
+datagrams_same f g o p e = (cc, cc)
+
 items_built : (a b : Built) → IsBuiltItem a → IsBuiltItem b → item_as a ≡ item_as b → a ≡ b
 items_built (reports f rs) (reports g qs) ha hb e =
     let parts = datagrams_same f g (datagram_of rs) (datagram_of qs) e in

@@ -6,6 +6,7 @@ pub mod Outputs
 pub mod Pictures
 pub mod Runs
 pub mod Settings
+pub mod SomeReplay
 pub mod Stepping
 pub mod TakingReports
 pub mod Told
