@@ -101,17 +101,20 @@ end_status (Some number) fault built rest h = ap NotBuilt h.0 ∙ ap (λ (is : L
 
 -- A run that came to an end gives its answer.
 pub ended_run : (octets : List ℕ) (start : ℕ) (items : List Item) (fault not_built : Option ℕ) (old new : HostState) → IsRead octets start items fault → Ends items start not_built old new → Replayed octets (status_at not_built fault) old new
-ended_run octets start items fault not_built old new reading h =
-    (h.taken.out, record {
-      start = start;
-      items = items;
-      fault = fault;
-      reading = reading;
-      built = h.built;
-      others = h.rest;
-      parts = h.taken.parts;
-      built_fit = h.taken.fit;
-      stops = end_stops not_built (length h.built) h.rest h.ends;
-      output_is = h.taken.output;
-      status_is = end_status not_built fault (length h.built) h.rest h.ends;
-    }, h.taken.got)
+ended_run octets start items fault not_built old new reading h = (
+  h.taken.out,
+  record {
+    start = start;
+    items = items;
+    fault = fault;
+    reading = reading;
+    built = h.built;
+    others = h.rest;
+    parts = h.taken.parts;
+    built_fit = h.taken.fit;
+    stops = end_stops not_built (length h.built) h.rest h.ends;
+    output_is = h.taken.output;
+    status_is = end_status not_built fault (length h.built) h.rest h.ends;
+  },
+  h.taken.got,
+)

@@ -1,9 +1,8 @@
 -- Each list of octets has a replay.
 use Rattle.std.proofs.Common.{◌≡◌, ◌∙◌, ap, sym, refl, subst, inl, inr, ℕ, zero, suc, ◌+◌, ◌*◌, ◌/◌, ◌%◌, ◌<◌, ◌≤◌, ◌⊎◌, List, [], ◌∷◌, ◌++◌, length, arith, append_assoc, append-nil, All}
-use Rattle.std.specs.Prelude.{map, Option}
+use Rattle.std.specs.Prelude.{map}
 use Rattle.std.specs.List.{flat_map, enumerate_from, AllByRecursion}
 use Rattle.std.proofs.lemmas.Bool.{cases_eq, cases_lt}
-use Rattle.std.proofs.lemmas.List.{take-append-drop}
 use Rattle.asterix_frame.specs.Blocks.{DataBlock}
 use Rattle.asterix_frame.specs.Blocks as frame
 use Rattle.tracker_session.specs.declared.report.Bearing.{Bearing}

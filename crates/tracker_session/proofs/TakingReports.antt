@@ -7,9 +7,9 @@ use Rattle.cat048_in.specs.declared.report.Report as cat048
 use Rattle.tracker_session.specs.declared.report.Plot.{Plot}
 use Rattle.tracker_session.specs.declared.report.Position.{Position}
 use Rattle.tracker_session.specs.Datagram.{Report}
-use Rattle.tracker_session.specs.Picture.{position_of, positions_of}
+use Rattle.tracker_session.specs.Picture.{position_of}
 use Rattle.tracker_session.specs.Taking.{TakesReports}
-use Rattle.tracker_session.specs.Thin.{AreThin, HasPlots, IsThin, Tells}
+use Rattle.tracker_session.specs.Thin.{AreThin, IsThin, Tells}
 
 -- where the first 65,535 of the plots lie
 abbrev pub places : List Plot → List Position
@@ -68,8 +68,8 @@ takes_grow rs i old new r p h lt thin here room =
       plots = h.plots ++ p ∷ [];
       thin = subst (λ t. AreThin t (h.plots ++ p ∷ [])) (sym (take_more rs i r lt ∙ ap (λ x. take i rs ++ x ∷ []) (sym here))) (thin_push (take i rs) h.plots r p h.thin thin);
       taken = λ before e.
-        let so = h.taken before e in
-        ap (λ t. t ++ position_of p ∷ []) so ∙ sym (places_grow (before ++ h.plots) p (omega (arith, room, ap length so))) ∙ ap places (append_assoc before h.plots (p ∷ []));
+          let so = h.taken before e in
+          ap (λ t. t ++ position_of p ∷ []) so ∙ sym (places_grow (before ++ h.plots) p (omega (arith, room, ap length so))) ∙ ap places (append_assoc before h.plots (p ∷ []));
     }
 
 pub takes_full : (rs : List cat048.Report) (i : ℕ) (old new : List Position) (r : cat048.Report) (p : Plot) → TakesSo (take i rs) old new → i < length rs → IsThin r p → r ≡ get_or rs i r → 65535 ≤ length new → TakesSo (take (i + 1) rs) old new
@@ -78,8 +78,8 @@ takes_full rs i old new r p h lt thin here full =
       plots = h.plots ++ p ∷ [];
       thin = subst (λ t. AreThin t (h.plots ++ p ∷ [])) (sym (take_more rs i r lt ∙ ap (λ x. take i rs ++ x ∷ []) (sym here))) (thin_push (take i rs) h.plots r p h.thin thin);
       taken = λ before e.
-        let so = h.taken before e in
-        so ∙ sym (places_full (before ++ h.plots) p (omega (arith, full, ap length so))) ∙ ap places (append_assoc before h.plots (p ∷ []));
+          let so = h.taken before e in
+          so ∙ sym (places_full (before ++ h.plots) p (omega (arith, full, ap length so))) ∙ ap places (append_assoc before h.plots (p ∷ []));
     }
 
 pub takes_all : (datagram : List ℕ) (rs : List cat048.Report) (old new : List Position) → Tells datagram rs → TakesSo rs old new → TakesReports datagram old new
@@ -89,5 +89,5 @@ takes_all datagram rs old new tells h =
       reports = built.reports;
       built = built.built;
       taken = λ before e.
-        h.taken (plots_of before) (e ∙ places_of 65535 before) ∙ ap places (ap (λ ps. plots_of before ++ ps) (sym built.plots_are) ∙ sym (map-append (λ (r : Report). r.plot) before built.reports)) ∙ sym (places_of 65535 (before ++ built.reports));
+          h.taken (plots_of before) (e ∙ places_of 65535 before) ∙ ap places (ap (λ ps. plots_of before ++ ps) (sym built.plots_are) ∙ sym (map-append (λ (r : Report). r.plot) before built.reports)) ∙ sym (places_of 65535 (before ++ built.reports));
     }

@@ -1,9 +1,7 @@
 -- What the reports of a block of the thin form tell: whether its datagram is built, and of which plots.
-use Rattle.std.proofs.Common.{◌≡◌, ◌∙◌, ap, sym, refl, subst, ℕ, zero, suc, ◌+◌, ◌*◌, ◌/◌, ◌%◌, ◌<◌, ◌≤◌, Bool, false, List, [], ◌∷◌, ◌++◌, length, get_or, arith}
-use Rattle.std.specs.Prelude.{map, ◌==◌, IsSomeAnd, Option, Some}
+use Rattle.std.proofs.Common.{◌≡◌, ◌∙◌, ap, sym, refl, subst, ℕ, zero, suc, ◌+◌, ◌*◌, ◌/◌, ◌%◌, ◌<◌, ◌≤◌, false, List, [], ◌∷◌, ◌++◌, length, get_or, arith}
+use Rattle.std.specs.Prelude.{map, ◌==◌, Option, Some}
 use Rattle.std.specs.List.{flat_map, AllByRecursion}
-use Rattle.std.proofs.lemmas.Nat.Bits.{bit_at-lt}
-use Rattle.std.specs.Int.{bit_at}
 use Rattle.trk_base.specs.Numbers.{day}
 use Rattle.asterix_frame.specs.Blocks.{spelled}
 use Rattle.asterix_frame.specs.declared.tables.Uap.TheVariants.{Cat048}
@@ -12,13 +10,10 @@ use Rattle.asterix_frame.specs.DataRecords.{DataRecord, IsDataRecord}
 use Rattle.asterix_frame.specs.DataRecords as grammar
 use Rattle.cat048_in.specs.declared.report.Report as cat048
 use Rattle.cat048_in.specs.Reports.{report_of, reports_of}
-use Rattle.cat048_in.specs.Values.{has_bit}
-use Rattle.tracker_session.specs.declared.report.Bearing.{Bearing}
-use Rattle.tracker_session.specs.declared.report.Bearing.TheVariants.{North, East, South, West}
 use Rattle.tracker_session.specs.declared.report.Plot.{Plot}
 use Rattle.tracker_session.specs.Datagram.{Report, IsReport, IsBuilt, high_octet, record_of, datagram_of}
 use Rattle.tracker_session.specs.Form.{Cells, record_octets, IsOneOctet, HasForm}
-use Rattle.tracker_session.specs.Thin.{IsThin, AreThin, HasPlots, Tells}
+use Rattle.tracker_session.specs.Thin.{IsThin, AreThin, Tells}
 use Rattle.tracker_session.proofs.Forms.{cells_of}
 use Rattle.tracker_session.proofs.Walks.{record_of_cells, time_of_cells, is_record, walked}
 
@@ -164,15 +159,15 @@ pub tells : (datagram body : List ℕ) (rs : List DataRecord) (reports : List ca
 tells datagram body rs reports e some bytes form is are reads =
     record {
       is_built = λ plots thin.
-        let all = told_all form.cells rs plots (subst IsBytes form.whole bytes) form.one_octet is.are_records (sym is.whole ∙ form.whole) (subst (λ (r : List cat048.Report). AreThin r plots) are thin) in
-        let octets : body ≡ flat_map record_of all.reports = form.whole ∙ all.whole in
-        record {
-          reports = all.reports;
-          built = record { some = no_reports all.reports (omega (arith, some, ap length octets)); each = all.each; whole = e ∙ ap (λ b. spelled (record { category = 48; body = b })) octets };
-          plots_are = all.plots_are;
-        };
+          let all = told_all form.cells rs plots (subst IsBytes form.whole bytes) form.one_octet is.are_records (sym is.whole ∙ form.whole) (subst (λ (r : List cat048.Report). AreThin r plots) are thin) in
+          let octets : body ≡ flat_map record_of all.reports = form.whole ∙ all.whole in
+          record {
+            reports = all.reports;
+            built = record { some = no_reports all.reports (omega (arith, some, ap length octets)); each = all.each; whole = e ∙ ap (λ b. spelled (record { category = 48; body = b })) octets };
+            plots_are = all.plots_are;
+          };
       are_thin = λ plots h.
-        let octets : body ≡ flat_map record_of h.reports = built_bodies datagram body h.reports e h.built in
-        let told : reports ≡ reports_of (map data_record h.reports) = reads (map data_record h.reports) (subst (λ b. IsBody Cat048 b (map data_record h.reports)) (sym octets) (built_body h.reports h.built.each)) in
-        subst (λ (ps : List Plot). AreThin reports ps) h.plots_are (subst (λ (r : List cat048.Report). AreThin r (map (λ q. q.plot) h.reports)) (sym told) (reports_thin h.reports h.built.each));
+          let octets : body ≡ flat_map record_of h.reports = built_bodies datagram body h.reports e h.built in
+          let told : reports ≡ reports_of (map data_record h.reports) = reads (map data_record h.reports) (subst (λ b. IsBody Cat048 b (map data_record h.reports)) (sym octets) (built_body h.reports h.built.each)) in
+          subst (λ (ps : List Plot). AreThin reports ps) h.plots_are (subst (λ (r : List cat048.Report). AreThin r (map (λ q. q.plot) h.reports)) (sym told) (reports_thin h.reports h.built.each));
     }

@@ -1,7 +1,7 @@
 -- The records of the thin form in the grammar of all records of CAT048.
-use Rattle.std.proofs.Common.{◌≡◌, ◌∙◌, ap, sym, refl, subst, ℕ, zero, suc, ◌+◌, ◌*◌, ◌-◌, ◌/◌, ◌%◌, ◌<◌, ◌≤◌, true, List, [], ◌∷◌, ◌++◌, length, get_or, arith, append_assoc}
-use Rattle.std.specs.Prelude.{map, IfSome}
-use Rattle.std.specs.List.{flat_map, AllByRecursion}
+use Rattle.std.proofs.Common.{◌≡◌, ◌∙◌, ap, sym, refl, subst, ℕ, zero, suc, ◌+◌, ◌*◌, ◌-◌, ◌/◌, ◌%◌, ◌<◌, ◌≤◌, true, List, [], ◌∷◌, ◌++◌, length, arith, append_assoc}
+use Rattle.std.specs.Prelude.{IfSome}
+use Rattle.std.specs.List.{AllByRecursion}
 use Rattle.std.proofs.lemmas.List.{get_or_past, take_at, drop_at}
 use Rattle.std.proofs.lemmas.Nat.Bits.{bit_at-zero}
 use Rattle.std.specs.Prelude.{take, drop}
@@ -37,10 +37,10 @@ abbrev pub record_of_cells : Cells → DataRecord
 record_of_cells c = record {
   fspec = 240 ∷ [];
   items = record { number = 0; octets = c.sac ∷ c.sic ∷ [] }
-    ∷ record { number = 1; octets = c.time_high ∷ c.time_middle ∷ c.time_low ∷ [] }
-    ∷ record { number = 2; octets = c.descriptor ∷ [] }
-    ∷ record { number = 3; octets = c.range_high ∷ c.range_low ∷ c.azimuth_high ∷ c.azimuth_low ∷ [] }
-    ∷ [];
+      ∷ record { number = 1; octets = c.time_high ∷ c.time_middle ∷ c.time_low ∷ [] }
+      ∷ record { number = 2; octets = c.descriptor ∷ [] }
+      ∷ record { number = 3; octets = c.range_high ∷ c.range_low ∷ c.azimuth_high ∷ c.azimuth_low ∷ [] }
+      ∷ [];
 }
 
 abbrev pub time_of_cells : Cells → ℕ
@@ -73,9 +73,13 @@ is_record c one early = record {
   in_order = refl;
   are_items = (
     record { whole = refl; in_day = (λ e. absurd (omega (arith, e))) },
-    (record { whole = refl; in_day = (λ e. early) },
-      (record { whole = record { some = omega arith; goes_on = (λ i more. absurd (omega (arith, more))); ends = one }; in_day = (λ e. absurd (omega (arith, e))) },
-        (record { whole = refl; in_day = (λ e. absurd (omega (arith, e))) }, tt))),
+    (
+      record { whole = refl; in_day = (λ e. early) },
+      (
+        record { whole = record { some = omega arith; goes_on = (λ i more. absurd (omega (arith, more))); ends = one }; in_day = (λ e. absurd (omega (arith, e))) },
+        (record { whole = refl; in_day = (λ e. absurd (omega (arith, e))) }, tt),
+      ),
+    ),
   );
 }
 

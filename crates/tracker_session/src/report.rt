@@ -20,7 +20,7 @@ const TARGET_REPORTS: u8 = 48;
 /// The FSPEC of a record of the items 010, 140, 020 and 040.
 const FSPEC: u8 = 0xF0;
 
-/// Bit 1 of I048/020: it goes on.
+/// Bit 1 of an octet of I048/020: the item goes on.
 const FX: u8 = 1;
 
 /// An azimuth of a quarter turn, of two, of three, or none.
@@ -111,18 +111,21 @@ fn plot_of(report: &Report) -> Option<Plot>
     Some(Plot { range, bearing })
 }
 
-// What follows the record that the octets begin with, where it has the form.
+// What follows the record that the octets begin with, where its items are 010, 140, 020 of one octet,
+// and 040.
 fn behind_record(octets: &[u8]) -> Option<&[u8]>
     ensures found { IfSome result (λ next. BeginsForm octets.now next.now) }
     ensures none { IfNone result ((next : List ℕ) → BeginsForm octets.now next → ⊥) }
 {
     match octets {
-        [FSPEC, _, _, _, _, _, descriptor, _, _, _, _, next @ ..] if descriptor & FX == 0 => Some(next),
+        [FSPEC, _, _, _, _, _, descriptor, _, _, _, _, next @ ..] if descriptor & FX == 0 => Some(
+            next,
+        ),
         _ => None,
     }
 }
 
-// Whether a body is records of the form.
+// Whether a body is records of these items. A report doesn't tell which items its record has.
 fn has_form(body: &[u8]) -> bool
     ensures yes { OnTrue result (HasForm body.now) }
     ensures no { OnFalse result (HasForm body.now → ⊥) }
@@ -137,7 +140,7 @@ fn has_form(body: &[u8]) -> bool
     true
 }
 
-// The target reports of a datagram that is one block of CAT048.
+// The block of CAT048 that is all of a datagram.
 fn only_block(datagram: &[u8]) -> Option<Block<'_>>
     ensures found { IfSome result (λ b. (b.cat ≡ 48) × (datagram.now ≡ spelled (record { category = 48; body = b.body.now }))) }
     ensures none { IfNone result ((body : List ℕ) → length datagram.now < 2 ^ 16 → datagram.now ≡ spelled (record { category = 48; body = body }) → ⊥) }
@@ -151,7 +154,7 @@ fn only_block(datagram: &[u8]) -> Option<Block<'_>>
     }
 }
 
-// The reports of a datagram that is one block of records of the form.
+// The reports of a datagram that is one block of such records.
 fn reports_of(alloc: Global, datagram: &[u8]) -> Result<Option<Vec<Report>>, NoMemory>
     requires short { length datagram.now < 2 ^ 16 }
     ensures found { IfOk result (λ o. IfSome o (λ reports. Tells datagram.now reports.items)) }

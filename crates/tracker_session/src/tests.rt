@@ -198,7 +198,10 @@ fn raw_form_with_faults(rt: HostRuntime) -> Result<(), Fail> {
         (&[0x15, 0x00, 0x03], Status::NotBuilt { item: 1 }),
         (&[0x30, 0x00, 0x04, 0x81], Status::NotBuilt { item: 1 }),
         (&[0x30, 0x00, 0x02], Status::Input { offset: 14 }),
-        (&[0x30, 0x00, 0x04, 0x81, 0x30], Status::NotBuilt { item: 1 }),
+        (
+            &[0x30, 0x00, 0x04, 0x81, 0x30],
+            Status::NotBuilt { item: 1 },
+        ),
     ];
     for (ending, status) in endings {
         let mut input = Vec::from_slice(alloc, &ONE_PLOT[13..27])?;

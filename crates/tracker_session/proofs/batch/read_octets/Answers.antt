@@ -1,4 +1,4 @@
-use Rattle.std.proofs.Common.{◌≡◌, ◌≤◌, ◌<◌, sym, length, take, arith}
+use Rattle.std.proofs.Common.{◌<◌, sym, length, arith}
 use Rattle.std.proofs.lemmas.List.{length-take-le}
 use Rattle.tracker_session.specs.Inputs.{limit}
 use Rattle.tracker_session.proofs.batch.read_octets.Goals as goal

@@ -1,4 +1,4 @@
-use Rattle.std.proofs.Common.{◌≡◌, List, subst}
+use Rattle.std.proofs.Common.{List, subst}
 use Rattle.recording.specs.declared.item.Item.{Item}
 use Rattle.recording.specs.Answers.{items_of}
 use Rattle.tracker_session.specs.Steps.{Ends, Stopped, status_at}

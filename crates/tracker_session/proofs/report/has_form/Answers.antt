@@ -1,5 +1,5 @@
-use Rattle.std.proofs.Common.{rules, ◌≡◌, ◌<◌, length}
-use Rattle.tracker_session.proofs.Forms.{form_begins, form_less, form_more, form_none}
+use Rattle.std.proofs.Common.{rules, ◌<◌, length}
+use Rattle.tracker_session.proofs.Forms.{form_begins, form_less, form_more}
 use Rattle.tracker_session.proofs.report.has_form.Goals as goal
 
 pub returns-in_default-clause-no : goal.returns-in_default-clause-no

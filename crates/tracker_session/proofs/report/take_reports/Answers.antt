@@ -1,4 +1,4 @@
-use Rattle.std.proofs.Common.{rules, ◌≡◌, ◌∙◌, ◌≤◌, ◌<◌, ◌+◌, ◌++◌, ◌∷◌, [], ap, sym, subst, List, length, take, arith}
+use Rattle.std.proofs.Common.{rules, ◌≡◌, ◌≤◌, ◌<◌, ◌+◌, ◌++◌, ◌∷◌, [], sym, subst, List, length, take}
 use Rattle.std.proofs.lemmas.List.{take_all}
 use Rattle.cat048_in.specs.declared.report.Report.{Report}
 use Rattle.tracker_session.specs.declared.report.Position.{Position}
