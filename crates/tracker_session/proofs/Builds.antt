@@ -1,10 +1,10 @@
 -- Items that are built are built in one way.
-use Rattle.std.proofs.Common.{◌≡◌, ◌∙◌, ap, sym, refl, subst, ℕ, List, [], ◌∷◌, ◌++◌, take, drop, arith}
+use Rattle.std.proofs.Common.{◌≡◌, ap, sym, refl, subst, ℕ, List, [], ◌∷◌, ◌++◌, take, drop, arith}
 use Rattle.std.specs.Prelude.{map}
 use Rattle.std.specs.List.{flat_map, AllByRecursion}
 use Rattle.tracker_session.specs.declared.report.Bearing.{Bearing}
 use Rattle.tracker_session.specs.declared.report.Bearing.TheVariants.{North, East, South, West}
-use Rattle.tracker_session.specs.Datagram.{Report, IsReport, IsBuilt, high_octet, record_of, datagram_of}
+use Rattle.tracker_session.specs.Datagram.{Report, IsReport, high_octet, record_of, datagram_of}
 use Rattle.recording.specs.Items.{Item, datagram, tick}
 use Rattle.tracker_session.specs.Replay.{Built, reports, tick_at, item_as, IsBuiltItem, StopsAt}
 use Rattle.tracker_session.proofs.Told.{body_same}
@@ -53,9 +53,6 @@ records_same (r ∷ rs) (q ∷ qs) hr hq e =
     let one = reports_same r q (flat_map record_of rs) (flat_map record_of qs) hr.0 hq.0 e in
     let others = records_same rs qs hr.1 hq.1 one.1 in
     (λ i. one.0 i ∷ others i)
-
-pub builds_same : (rs qs : List Report) (octets : List ℕ) → IsBuilt octets rs → IsBuilt octets qs → rs ≡ qs
-builds_same rs qs octets h k = records_same rs qs h.each k.each (body_same qs (flat_map record_of rs) (sym h.whole ∙ k.whole))
 
 ticks_same : (t u : ℕ) → tick t ≡ tick u → t ≡ u
 ticks_same t u e = cc

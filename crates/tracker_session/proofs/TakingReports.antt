@@ -1,5 +1,5 @@
 -- The plots of a datagram, one after the other.
-use Rattle.std.proofs.Common.{◌≡◌, ◌∙◌, ap, sym, refl, subst, ℕ, zero, suc, ◌+◌, ◌<◌, ◌≤◌, List, [], ◌∷◌, ◌++◌, length, get_or, take, arith, append_assoc, append-nil, length-append, length-take}
+use Rattle.std.proofs.Common.{◌≡◌, ◌∙◌, ap, sym, refl, subst, ℕ, zero, suc, ◌+◌, ◌<◌, ◌≤◌, List, [], ◌∷◌, ◌++◌, length, get_or, take, arith, append_assoc, length-append, length-take}
 use Rattle.std.specs.Prelude.{map}
 use Rattle.std.specs.List.{AllByRecursion}
 use Rattle.std.proofs.lemmas.List.{map_push, map-append, take_all, take-append-le, take_more, length-map}
@@ -45,9 +45,6 @@ thin_at [] ps i d lt h = absurd (omega (arith, lt))
 thin_at (r ∷ rs) [] i d lt h = absurd h
 thin_at (r ∷ rs) (p ∷ ps) zero d lt h = (p, h.0)
 thin_at (r ∷ rs) (p ∷ ps) (suc i) d lt h = thin_at rs ps i d (omega (arith, lt)) h.1
-
-pub takes_none : (ps : List Position) → TakesSo [] ps ps
-takes_none ps = record { plots = []; thin = tt; taken = λ before e. e ∙ ap places (sym (append-nil before)) }
 
 -- where there is room, a plot comes behind the others
 places_grow : (ps : List Plot) (p : Plot) → length (places ps) < 65535 → places (ps ++ p ∷ []) ≡ places ps ++ position_of p ∷ []
