@@ -10,16 +10,15 @@ use Rattle.asterix_frame.specs.declared.tables.Uap.{Uap}
 use Rattle.asterix_frame.specs.declared.block.Block.{Block}
 use Rattle.asterix_frame.specs.declared.block.Malformed.{Malformed}
 use Rattle.asterix_frame.specs.declared.walk.ItemSpans.{ItemSpans}
-use Rattle.asterix_frame.specs.Blocks.{DataBlock, IsDataBlock}
+use Rattle.asterix_frame.specs.Blocks.{IsDataBlock}
 use Rattle.asterix_frame.specs.Places.{data_block}
 use Rattle.asterix_frame.specs.Parts.{Part}
 use Rattle.asterix_frame.specs.Tables.{category_of, time_frn}
 use Rattle.asterix_frame.specs.DataRecords.{DataRecord, IsDataItem, IsDataRecord, item, time_in, time_of}
-use Rattle.asterix_frame.specs.Bodies.{HaveDataRecords, HasRecords, IsFaultOfBody, parts_at, body_of, times_of}
+use Rattle.asterix_frame.specs.Bodies.{HaveDataRecords, HasRecords, IsFaultOfBody, parts_at, times_of}
 use Rattle.asterix_frame.specs.Datagrams as datagrams
 use Rattle.asterix_frame.specs.Datagrams.{IsRead}
-use Rattle.recording.specs.Raw.{TimedBlock}
-use Rattle.recording.specs.Times.{HasTimes, IsMalformed, whole, malformed}
+use Rattle.recording.specs.Times.{HasTimes, whole, malformed}
 
 -- by their places
 times_have : (uap : Uap) (body : List ℕ) (from : ℕ) (rs : List DataRecord) (found : List ItemSpans) → HaveDataRecords uap body from rs found → filter_map (λ s. time_of uap (parts_at body s.frns.items)) found ≡ times_of uap rs

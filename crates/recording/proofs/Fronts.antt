@@ -1,16 +1,14 @@
 -- What is known of a whole input by its front.
-use Rattle.std.proofs.Common.{◌≡◌, ◌∙◌, ap, sym, refl, subst, inl, inr, ℕ, ◌+◌, ◌<◌, ◌≤◌, ◌≢◌, List, [], ◌∷◌, ◌++◌, length, arith, append_assoc, length-append}
-use Rattle.std.specs.Prelude.{Bool, true, false, Option, Some, None}
-use Rattle.std.specs.List.{flat_map, AllByRecursion}
-use Rattle.asterix_frame.specs.Blocks.{spelling, DataBlock, IsDataBlock}
-use Rattle.asterix_frame.specs.Blocks as blocks
+use Rattle.std.proofs.Common.{◌≡◌, ◌∙◌, ap, refl, subst, inl, inr, ℕ, ◌<◌, ◌≤◌, ◌≢◌, List, [], ◌∷◌, ◌++◌, length, arith, append_assoc}
+use Rattle.std.specs.Prelude.{true, Some}
+use Rattle.std.specs.List.{flat_map}
+use Rattle.asterix_frame.specs.Blocks.{spelling}
 use Rattle.recording.specs.declared.ending.Ending.{Ending}
 use Rattle.recording.specs.declared.ending.Ending.TheVariants.{Nothing, Other, Cut}
 use Rattle.recording.specs.Endings.{AreWritten, fault_of}
-use Rattle.recording.specs.Items.{Item, IsItem, spelled, IsNoItem}
-use Rattle.recording.specs.Blocks.{IsNoBlock}
+use Rattle.recording.specs.Items.{Item}
 use Rattle.recording.specs.Raw.{blocks_of}
-use Rattle.recording.specs.Readings.{mark, header, recording, IsRecording, HasNoStart, IsRaw, IsReading, IsReadingOfFront}
+use Rattle.recording.specs.Readings.{mark, header, recording, IsRecording, IsRaw, IsReading, IsReadingOfFront}
 use Rattle.recording.proofs.Codes.{IsCode}
 use Rattle.recording.proofs.Octets.{items_code}
 use Rattle.recording.proofs.BlockOctets.{blocks_code}

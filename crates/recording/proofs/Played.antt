@@ -1,16 +1,16 @@
 -- How far the raw form was read.
-use Rattle.std.proofs.Common.{◌≡◌, ◌∙◌, ap, sym, refl, subst, ℕ, ◌+◌, ◌<◌, ◌≤◌, List, [], ◌∷◌, ◌++◌, length, drop, map, arith, append_assoc, append-nil, length-append}
+use Rattle.std.proofs.Common.{◌≡◌, ◌∙◌, ap, sym, refl, subst, ℕ, ◌+◌, List, [], ◌∷◌, ◌++◌, length, drop, arith, append-nil, length-append}
 use Rattle.std.specs.Prelude.{◌≢◌, Bool, Option, Some, None}
 use Rattle.std.specs.Option.{unwrap_or}
-use Rattle.std.specs.List.{flat_map, AllByRecursion}
-use Rattle.std.proofs.lemmas.List.{map-append, drop_at}
+use Rattle.std.specs.List.{AllByRecursion}
+use Rattle.std.proofs.lemmas.List.{map-append}
 use Rattle.std.proofs.lemmas.List.Concat.{flat_map-append}
 use Rattle.asterix_frame.specs.Blocks.{DataBlock, IsDataBlock, spelled, spelling}
 use Rattle.recording.specs.declared.ending.Ending.{Ending}
 use Rattle.recording.specs.declared.item.Item as declared
 use Rattle.recording.specs.declared.raw.Clock.{Clock}
 use Rattle.recording.specs.declared.raw.Player.{Player}
-use Rattle.recording.specs.Blocks.{BlocksEnd, AreBlocks}
+use Rattle.recording.specs.Blocks.{BlocksEnd}
 use Rattle.recording.specs.Endings.{fault_of}
 use Rattle.recording.specs.Items.{Item, datagram}
 use Rattle.recording.specs.Raw.{TimedBlock, blocks_of, start_at, start_of, tick_before, last_tick, ticks, items_from, last_from, closing}

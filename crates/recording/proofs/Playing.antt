@@ -1,12 +1,11 @@
 -- One more block is played.
-use Rattle.std.proofs.Common.{◌≡◌, ◌∙◌, ap, sym, refl, ℕ, ◌+◌, ◌<◌, ◌≤◌, List, [], ◌∷◌, ◌++◌, length, arith, append_assoc, append-nil, length-append}
+use Rattle.std.proofs.Common.{◌≡◌, ◌∙◌, ap, sym, refl, ℕ, ◌+◌, ◌<◌, List, [], ◌∷◌, ◌++◌, length, arith, append_assoc, append-nil, length-append}
 use Rattle.std.specs.Prelude.{Option, Some, None, if◌then◌else◌}
-use Rattle.std.specs.List.{flat_map}
 use Rattle.std.proofs.lemmas.Bool.{lt-leb}
 use Rattle.std.proofs.lemmas.List.Concat.{flat_map-append}
 use Rattle.asterix_frame.specs.Blocks.{spelled}
 use Rattle.recording.specs.declared.raw.Clock.{Clock}
-use Rattle.recording.specs.Items.{Item, datagram, tick}
+use Rattle.recording.specs.Items.{Item, datagram}
 use Rattle.recording.specs.Raw.{TimedBlock, all_times, whole_seconds, start_at, start_of, tick_at, tick_before, last_tick, ticks, items_from, last_from}
 use Rattle.recording.specs.Playing.{Started, Waiting, IsPlayed, clock_behind, clock_with, tick_of}
 

@@ -1,11 +1,11 @@
 -- The items of the raw form fit their octets.
-use Rattle.std.proofs.Common.{◌≡◌, sym, subst, inl, inr, ℕ, suc, ◌+◌, ◌<◌, ◌^◌, List, [], ◌∷◌, ◌++◌, length, arith}
+use Rattle.std.proofs.Common.{sym, subst, inl, inr, ℕ, suc, ◌+◌, ◌<◌, ◌^◌, List, [], ◌∷◌, ◌++◌, arith}
 use Rattle.std.specs.Prelude.{Bool, true, false, Option, Some, None, IfSome, nat_le, if◌then◌else◌}
 use Rattle.std.specs.List.{AllByRecursion}
 use Rattle.std.proofs.lemmas.Bool.Decides.{leb_tells}
 use Rattle.asterix_frame.specs.Blocks.{IsDataBlock, spelled}
 use Rattle.recording.specs.Items.{Item, IsItem, datagram}
-use Rattle.recording.specs.Raw.{TimedBlock, blocks_of, second, whole_seconds, latest, tick_at, tick_before, last_tick, last_from, ticks, start_of, items_from, closing, raw_items}
+use Rattle.recording.specs.Raw.{TimedBlock, blocks_of, second, whole_seconds, latest, tick_at, tick_before, last_tick, last_from, ticks, start_of, items_from, closing}
 use Rattle.recording.specs.Readings.{IsRaw}
 
 abbrev Fits : Option ℕ → Type 0

@@ -1,26 +1,21 @@
 -- Octets have one reading.
-use Rattle.std.proofs.Common.{◌≡◌, ◌∙◌, ap, sym, refl, subst, inl, inr, append_assoc, append-nil, length-append, ℕ, ◌+◌, ◌<◌, ◌≤◌, ◌≢◌, ◌⊎◌, List, [], ◌∷◌, ◌++◌, length, take, drop, map, arith, All}
-use Rattle.std.specs.Prelude.{Bool, true, false, Option, Some, None}
-use Rattle.std.specs.List.{flat_map, AllByRecursion}
+use Rattle.std.proofs.Common.{◌≡◌, ◌∙◌, ap, sym, refl, subst, inl, inr, length-append, ℕ, ◌≢◌, List, [], ◌∷◌, ◌++◌, length, arith}
+use Rattle.std.specs.Prelude.{Bool, Option}
+use Rattle.std.specs.List.{AllByRecursion}
 use Rattle.asterix_frame.specs.declared.tables.Uap.{Uap}
-use Rattle.asterix_frame.specs.declared.tables.Uap.TheVariants.{Cat034, Cat048}
-use Rattle.asterix_frame.specs.Blocks.{DataBlock, IsDataBlock, spelling}
-use Rattle.asterix_frame.specs.Blocks as blocks
+use Rattle.asterix_frame.specs.Blocks.{DataBlock, spelling}
 use Rattle.asterix_frame.specs.Tables.{category_of}
-use Rattle.asterix_frame.specs.DataRecords.{DataRecord, IsDataRecord}
-use Rattle.asterix_frame.specs.Bodies.{IsBody, BodyFault, body_of, times_of}
+use Rattle.asterix_frame.specs.DataRecords.{IsDataRecord}
+use Rattle.asterix_frame.specs.Bodies.{BodyFault, body_of, times_of}
 use Rattle.asterix_frame.specs.Datagrams.{Content, IsContent, IsRead, block_of, times_of_content}
 use Rattle.asterix_frame.specs.Datagrams as datagrams
-use Rattle.asterix_frame.proofs.Bodies.{some_reading, one_list, not_both}
-use Rattle.recording.specs.declared.ending.Ending.{Ending}
+use Rattle.asterix_frame.proofs.Bodies.{one_list, not_both}
 use Rattle.recording.specs.Endings.{fault_of}
-use Rattle.recording.specs.Items.{Item, IsItem, IsNoItem, AreItems}
-use Rattle.recording.specs.Items as items
-use Rattle.recording.specs.Blocks.{IsNoBlock, AreBlocks}
+use Rattle.recording.specs.Items.{Item, AreItems}
 use Rattle.recording.specs.Raw.{TimedBlock, blocks_of, start_of, raw_items}
 use Rattle.recording.specs.Times.{HasTimes, IsMalformed, whole, malformed}
 use Rattle.recording.specs.Readings.{mark, header, recording, IsRecording, HasNoStart, IsRaw, Reads}
-use Rattle.recording.proofs.Codes.{IsBytes, written_same, some_written}
+use Rattle.recording.proofs.Codes.{written_same}
 use Rattle.recording.proofs.Octets.{items_code, headers_same}
 use Rattle.recording.proofs.BlockOctets.{blocks_code}
 

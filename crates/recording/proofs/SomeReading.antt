@@ -1,5 +1,5 @@
 -- Each list of octets has a reading.
-use Rattle.std.proofs.Common.{◌≡◌, ◌∙◌, ap, sym, refl, subst, inl, inr, ℕ, suc, ◌<◌, ◌≢◌, ◌⊎◌, List, [], ◌∷◌, ◌++◌, length, map, arith}
+use Rattle.std.proofs.Common.{◌≡◌, ap, sym, refl, subst, inl, inr, ℕ, suc, ◌<◌, ◌≢◌, List, [], ◌∷◌, ◌++◌, length, arith}
 use Rattle.std.specs.Prelude.{Bool, Some}
 use Rattle.std.specs.List.{AllByRecursion}
 use Rattle.std.proofs.lemmas.Bool.{cases_eq}
@@ -16,7 +16,7 @@ use Rattle.recording.specs.Blocks.{AreBlocks}
 use Rattle.recording.specs.Raw.{TimedBlock, blocks_of, start_of, raw_items}
 use Rattle.recording.specs.Times.{HasTimes, whole, malformed}
 use Rattle.recording.specs.Readings.{mark, header, recording, HasReading}
-use Rattle.recording.proofs.Codes.{IsBytes, rest_bytes, some_written}
+use Rattle.recording.proofs.Codes.{IsBytes, some_written}
 use Rattle.recording.proofs.Octets.{five_octets, items_decided}
 use Rattle.recording.proofs.BlockOctets.{blocks_decided}
 

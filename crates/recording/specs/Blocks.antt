@@ -1,5 +1,5 @@
 -- The data blocks of the raw form, one after the other.
-use Rattle.std.specs.Prelude.{◌≡◌, ◌<◌, ℕ, ◌+◌, ◌*◌, List, [], ◌∷◌}
+use Rattle.std.specs.Prelude.{◌<◌, ℕ, ◌+◌, ◌*◌, List, ◌∷◌}
 use Rattle.asterix_frame.specs.Blocks.{DataBlock, IsDataBlock, spelled}
 use Rattle.recording.specs.declared.ending.Ending.{Ending}
 use Rattle.recording.specs.Endings.{IsCutShort, EndsSo, AreWritten}

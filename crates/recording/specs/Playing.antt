@@ -1,5 +1,5 @@
 -- How far the blocks of the raw form were played.
-use Rattle.std.specs.Prelude.{◌≡◌, ◌<◌, ◌^◌, ℕ, ◌+◌, List, [], ◌∷◌, ◌++◌, length, Option, Some, None}
+use Rattle.std.specs.Prelude.{◌≡◌, ◌<◌, ◌^◌, ℕ, ◌+◌, List, [], ◌∷◌, length, Option, Some, None}
 use Rattle.std.specs.List.{AllByRecursion}
 use Rattle.asterix_frame.specs.Blocks.{spelling}
 use Rattle.recording.specs.declared.ending.Ending.{Ending}

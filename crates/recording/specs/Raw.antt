@@ -1,5 +1,5 @@
 -- The raw form: data blocks without feeds or ticks. Each is a datagram of feed 0, and the ticks come from the times of day in the blocks.
-use Rattle.std.specs.Prelude.{◌≡◌, ◌<◌, ◌^◌, ℕ, ◌+◌, ◌*◌, ◌/◌, max, nat_lt, nat_le, ◌&&◌, if◌then◌else◌, List, [], ◌∷◌, ◌++◌, map, fold, Option, Some, None}
+use Rattle.std.specs.Prelude.{◌^◌, ℕ, ◌+◌, ◌*◌, ◌/◌, max, nat_lt, nat_le, if◌then◌else◌, List, [], ◌∷◌, ◌++◌, map, fold, Option, Some, None}
 use Rattle.std.specs.List.{flat_map}
 use Rattle.trk_base.specs.Numbers.{unwrapped}
 use Rattle.asterix_frame.specs.Blocks.{DataBlock, spelled}

@@ -1,5 +1,5 @@
 -- What is read of octets: a start, items, and the offset of the first fault.
-use Rattle.std.specs.Prelude.{◌≡◌, ◌≢◌, ◌<◌, ◌^◌, ◌⊎◌, ℕ, Bool, true, false, List, [], ◌∷◌, ◌++◌, length, Option, Some, None}
+use Rattle.std.specs.Prelude.{◌≡◌, ◌≢◌, ◌<◌, ◌^◌, ◌⊎◌, ℕ, Bool, true, false, List, [], ◌∷◌, ◌++◌, length, Option, Some}
 use Rattle.std.specs.List.{flat_map, AllByRecursion}
 use Rattle.asterix_frame.specs.Blocks.{spelling}
 use Rattle.recording.specs.declared.ending.Ending.{Ending}

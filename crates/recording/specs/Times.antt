@@ -1,5 +1,5 @@
 -- The times of day in a data block.
-use Rattle.std.specs.Prelude.{◌≡◌, ℕ, List, []}
+use Rattle.std.specs.Prelude.{◌≡◌, ℕ, []}
 use Rattle.asterix_frame.specs.declared.tables.Uap.{Uap}
 use Rattle.asterix_frame.specs.Blocks.{DataBlock}
 use Rattle.asterix_frame.specs.Tables.{category_of}

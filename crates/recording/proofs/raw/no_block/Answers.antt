@@ -1,4 +1,4 @@
-use Rattle.std.proofs.Common.{rules, ◌≡◌, get_or, length, ◌<◌, ◌≤◌, ◌+◌, ◌*◌, arith}
+use Rattle.std.proofs.Common.{rules, arith}
 use Rattle.recording.proofs.BlockOctets.{cut_at}
 use Rattle.recording.proofs.raw.no_block.Goals as goal
 

@@ -1,4 +1,4 @@
-use Rattle.std.proofs.Common.{rules, ◌≡◌, ◌∙◌, ap, sym, refl, length, arith, drop, take, ◌≤◌, ◌+◌, ◌-◌, ◌++◌}
+use Rattle.std.proofs.Common.{rules, ◌≡◌, ◌∙◌, ap, sym, length, arith, drop, take, ◌+◌, ◌-◌, ◌++◌}
 use Rattle.std.proofs.lemmas.List.{take_at}
 use Rattle.asterix_frame.specs.Blocks.{spelled}
 use Rattle.asterix_frame.specs.Places.{data_block}

@@ -1,4 +1,4 @@
-use Rattle.std.proofs.Common.{length, ◌-◌, ◌≡◌, ◌<◌, ◌≤◌, IfSome}
+use Rattle.std.proofs.Common.{length, ◌-◌, ◌≤◌, IfSome}
 use Rattle.recording.specs.Playing.{InRange}
 use Rattle.recording.proofs.Played.{HasProgress}
 use Rattle.recording.proofs.raw.play.Given as goal

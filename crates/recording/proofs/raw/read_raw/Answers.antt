@@ -1,4 +1,4 @@
-use Rattle.std.proofs.Common.{◌≡◌, ◌∙◌, ◌++◌, ap, sym}
+use Rattle.std.proofs.Common.{◌≡◌, ◌∙◌, ◌++◌, ap}
 use Rattle.recording.specs.Raw.{ticks}
 use Rattle.recording.specs.Answers.{items_of}
 use Rattle.recording.specs.Playing.{closing_tick}
