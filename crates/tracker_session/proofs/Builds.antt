@@ -1,13 +1,14 @@
 -- Items that are built are built in one way.
-use Rattle.std.proofs.Common.{◌≡◌, ◌∙◌, ap, sym, refl, subst, ℕ, ◌+◌, ◌/◌, ◌%◌, List, [], ◌∷◌, ◌++◌, length, take, drop, arith, append_assoc}
+use Rattle.std.proofs.Common.{◌≡◌, ap, sym, refl, subst, ℕ, List, [], ◌∷◌, ◌++◌, take, drop, arith}
 use Rattle.std.specs.Prelude.{map}
 use Rattle.std.specs.List.{flat_map, AllByRecursion}
 use Rattle.tracker_session.specs.declared.report.Bearing.{Bearing}
 use Rattle.tracker_session.specs.declared.report.Bearing.TheVariants.{North, East, South, West}
-use Rattle.tracker_session.specs.Datagram.{Report, IsReport, IsBuilt, high_octet, record_of, datagram_of}
-use Rattle.tracker_session.specs.Recording.{Item}
+use Rattle.tracker_session.specs.Datagram.{Report, IsReport, high_octet, record_of, datagram_of}
+use Rattle.recording.specs.Items.{Item, datagram, tick}
 use Rattle.tracker_session.specs.Replay.{Built, reports, tick_at, item_as, IsBuiltItem, StopsAt}
-use Rattle.tracker_session.proofs.Readings.{datagrams_same, ticks_same, split_same}
+use Rattle.tracker_session.proofs.Told.{body_same}
+use Rattle.tracker_session.proofs.Walks.{split_same}
 
 bearings_same : (a b : Bearing) → high_octet a ≡ high_octet b → a ≡ b
 bearings_same North North e = refl
@@ -41,23 +42,8 @@ reports_same r q x y hr hq e =
     let bearing = bearings_same r.plot.bearing q.plot.bearing last.2 in
     ((λ i. record { time_of_day = time i; descriptor = first.3 i; plot = record { range = range i; bearing = bearing i } }), last.4)
 
--- what goes on behind the records of some reports
-pub record MoreReports (rs qs : List Report) (rest : List ℕ) : Type 0 where
-  pub more : List Report
-  pub fit : AllByRecursion IsReport more
-  pub rest_is : rest ≡ flat_map record_of more
-  pub parts : qs ≡ rs ++ more
-
 no_record : (r : Report) (rest : List ℕ) → record_of r ++ rest ≡ [] → ⊥
 no_record r rest e = cc
-
-pub reports_front : (rs qs : List Report) (rest : List ℕ) → AllByRecursion IsReport rs → AllByRecursion IsReport qs → flat_map record_of rs ++ rest ≡ flat_map record_of qs → MoreReports rs qs rest
-reports_front [] qs rest hr hq e = record { more = qs; fit = hq; rest_is = e; parts = refl }
-reports_front (r ∷ rs) [] rest hr hq e = absurd (no_record r (flat_map record_of rs ++ rest) (sym (append_assoc (record_of r) (flat_map record_of rs) rest) ∙ e))
-reports_front (r ∷ rs) (q ∷ qs) rest hr hq e =
-    let one = reports_same r q (flat_map record_of rs ++ rest) (flat_map record_of qs) hr.0 hq.0 (sym (append_assoc (record_of r) (flat_map record_of rs) rest) ∙ e) in
-    let others = reports_front rs qs rest hr.1 hq.1 one.1 in
-    record { more = others.more; fit = others.fit; rest_is = others.rest_is; parts = (λ i. sym one.0 i ∷ others.parts i) }
 
 pub records_same : (rs qs : List Report) → AllByRecursion IsReport rs → AllByRecursion IsReport qs → flat_map record_of rs ≡ flat_map record_of qs → rs ≡ qs
 records_same [] [] hr hq e = refl
@@ -68,17 +54,16 @@ records_same (r ∷ rs) (q ∷ qs) hr hq e =
     let others = records_same rs qs hr.1 hq.1 one.1 in
     (λ i. one.0 i ∷ others i)
 
--- the body of a block
-pub body_same : (rs : List Report) (body : List ℕ) → 48 ∷ (length body + 3) / 256 % 256 ∷ (length body + 3) % 256 ∷ body ≡ datagram_of rs → body ≡ flat_map record_of rs
-body_same rs body e = (four 0 _ _ _ 0 _ _ _ body (flat_map record_of rs) (ap (λ t. 0 ∷ t) e)).4
+ticks_same : (t u : ℕ) → tick t ≡ tick u → t ≡ u
+ticks_same t u e = cc
 
-pub builds_same : (rs qs : List Report) (octets : List ℕ) → IsBuilt octets rs → IsBuilt octets qs → rs ≡ qs
-builds_same rs qs octets h k = records_same rs qs h.each k.each (body_same qs (flat_map record_of rs) (sym h.whole ∙ k.whole))
+datagrams_same : (f g : ℕ) (o p : List ℕ) → datagram f o ≡ datagram g p → (f ≡ g) × (o ≡ p)
+datagrams_same f g o p e = (cc, cc)
 
 items_built : (a b : Built) → IsBuiltItem a → IsBuiltItem b → item_as a ≡ item_as b → a ≡ b
 items_built (reports f rs) (reports g qs) ha hb e =
     let parts = datagrams_same f g (datagram_of rs) (datagram_of qs) e in
-    let same = records_same rs qs ha.1.each hb.1.each (body_same qs (flat_map record_of rs) parts.1) in
+    let same = records_same rs qs ha.each hb.each (body_same qs (flat_map record_of rs) parts.1) in
     (λ i. reports (parts.0 i) (same i))
 items_built (reports f rs) (tick_at t) ha hb e = absurd cc
 items_built (tick_at t) (reports f rs) ha hb e = absurd cc
@@ -86,7 +71,7 @@ items_built (tick_at t) (tick_at u) ha hb e = ap tick_at (ticks_same t u e)
 
 -- a built item stops nothing
 pub built_goes_on : (b : Built) (items : List Item) → IsBuiltItem b → StopsAt (item_as b ∷ items) → ⊥
-built_goes_on (reports feed rs) items h stops = stops rs h.1
+built_goes_on (reports feed rs) items h stops = stops rs h
 built_goes_on (tick_at time) items h stops = stops
 
 pub record MoreBuilt (bs cs : List Built) (r t : List Item) : Type 0 where

@@ -1,12 +1,13 @@
 pub mod Builds
-pub mod SomeReading
-pub mod SomeReplay
-pub mod Octets
+pub mod Forms
+pub mod Inputs
 pub mod Outcomes
 pub mod Outputs
 pub mod Pictures
-pub mod Readings
 pub mod Runs
 pub mod Settings
+pub mod SomeReplay
 pub mod Stepping
 pub mod TakingReports
+pub mod Told
+pub mod Walks

@@ -1,27 +1,25 @@
 -- From what was read of Input to what Input had, and from step to step.
-use Rattle.std.proofs.Common.{◌≡◌, ◌≢◌, ◌∙◌, ap, sym, refl, subst, inl, inr, ℕ, ◌<◌, ◌≤◌, ◌^◌, ◌⊎◌, Bool, true, false, List, [], ◌++◌, length, take, drop, min, arith, length-append, append-nil}
-use Rattle.std.specs.Prelude.{Option, Some, None, nat_lt}
-use Rattle.std.proofs.lemmas.Bool.{cases_lt, lt-ltb}
-use Rattle.std.proofs.lemmas.List.{take_all, take-append-drop, take-append-le}
+use Rattle.std.proofs.Common.{◌≡◌, ◌≢◌, ◌∙◌, ap, sym, refl, subst, inl, inr, ℕ, ◌<◌, ◌≤◌, ◌⊎◌, List, [], ◌++◌, length, take, arith, length-append, append-nil}
+use Rattle.std.specs.Prelude.{Option, Some, None}
+use Rattle.std.proofs.lemmas.Bool.{cases_lt}
+use Rattle.std.proofs.lemmas.List.{take-append-le}
 use Rattle.std.specs.Io.KnownBytes.{Appends, Consumes}
 use Rattle.io_traits.specs.Host.{HostState, IsEmpty, WritesOnly}
 use Rattle.io_traits.specs.declared.host.Place.{Place}
 use Rattle.io_traits.specs.declared.host.Place.TheVariants as places
 use Rattle.io_traits.proofs.Known.{Consumes_all, Appends_nothing}
-use Rattle.tracker_session.specs.declared.batch.End.{End}
-use Rattle.tracker_session.specs.declared.batch.End.TheVariants as ends
-use Rattle.tracker_session.specs.declared.recording.ItemFault.TheVariants.{FirstOctet, CutShort}
+use Rattle.recording.specs.Items.{Item}
+use Rattle.recording.specs.Readings.{IsReadingOfFront}
 use Rattle.tracker_session.specs.declared.status.Spot.{Spot}
 use Rattle.tracker_session.specs.declared.status.Spot.TheVariants as spots
 use Rattle.tracker_session.specs.declared.status.Status.{Status}
 use Rattle.tracker_session.specs.declared.status.Status.TheVariants.{Done, Usage, Input, Read, Write, Memory, NotBuilt}
 use Rattle.tracker_session.specs.Answers.{Answers, IsAnswer, Replayed, ReplayedFront}
 use Rattle.tracker_session.specs.Places.{AppendsFront, InputHas, InputRead, InputFailed, IsFaultless, OutputBound, OutputFailed, OutputGotFront, StopsWriting, UsesInput, UsesOutput}
-use Rattle.tracker_session.specs.Recording.{Item, limit, mark, header, recording, fault_of, HasNoStart, IsReading, IsNoRecording}
+use Rattle.tracker_session.specs.Inputs.{IsRead, limit}
 use Rattle.tracker_session.specs.Replay.{Replays}
 use Rattle.tracker_session.specs.Steps.{status_at}
-use Rattle.tracker_session.proofs.Outputs.{output_none}
-use Rattle.tracker_session.proofs.Runs.{Seen, one_replay, front_got}
+use Rattle.tracker_session.proofs.Runs.{one_replay, front_got}
 
 -- Two inputs that are one, or both pass the limit and are one before it.
 pub record BothLong (a b : List ℕ) : Type 0 where
@@ -36,46 +34,29 @@ turned : (a b : List ℕ) → Alike a b → Alike b a
 turned a b (inl e) = inl (sym e)
 turned a b (inr h) = inr (record { front = sym h.front; long = h.long'; long' = h.long })
 
-marks_alike : (a b rest : List ℕ) → BothLong a b → b ≡ mark ++ rest → (more : List ℕ) × (a ≡ mark ++ more)
-marks_alike a b rest h e =
-    let front : take limit a ≡ mark ++ take 1073741820 rest = h.front ∙ ap (take limit) e in
-    (take 1073741820 rest ++ drop limit a, sym (take-append-drop limit a) ∙ ap (λ t. t ++ drop limit a) front)
-
-tests_alike : (a b : List ℕ) → BothLong a b → nat_lt limit (length a) ≡ nat_lt limit (length b)
-tests_alike a b h = lt-ltb limit (length a) h.long ∙ sym (lt-ltb limit (length b) h.long')
-
-reading_alike : (a b : List ℕ) (start : ℕ) (items : List Item) (fault : Option ℕ) → BothLong a b → IsReading a start items fault → IsReading b start items fault
-reading_alike a b start items fault h (inl r) =
-    inl (record {
-      start_fits = r.start_fits;
-      items_fit = r.items_fit;
-      rest = r.rest;
-      ending = r.ending;
-      whole = sym h.front ∙ r.whole;
-      ends = r.ends;
-      fault_is = r.fault_is ∙ ap (λ long. fault_of r.ending long (length (recording start items))) (tests_alike a b h);
-    })
-reading_alike a b start items fault h (inr r) = absurd (omega (arith, h.long, ap length r.whole, r.short))
+reading_alike : (a b : List ℕ) (start : ℕ) (items : List Item) (fault : Option ℕ) → BothLong a b → IsRead a start items fault → IsRead b start items fault
+reading_alike a b start items fault h r =
+    record {
+      whole = λ short. absurd (omega (arith, h.long', short));
+      front = λ long. subst (λ (o : List ℕ). IsReadingOfFront o start items fault) h.front (r.front h.long);
+    }
 
 -- they are replayed alike
 pub replays_alike : (a b output : List ℕ) (status : Status) → Alike a b → Replays a output status → Replays b output status
 replays_alike a b output status (inl e) r = subst (λ (o : List ℕ). Replays o output status) e r
-replays_alike a b output status (inr h) (inl r) =
-    inl (record {
-      start = r.start;
-      items = r.items;
-      fault = r.fault;
-      reading = reading_alike a b r.start r.items r.fault h r.reading;
-      built = r.built;
-      others = r.others;
-      parts = r.parts;
-      built_fit = r.built_fit;
-      stops = r.stops;
-      output_is = r.output_is;
-      status_is = r.status_is;
-    })
-replays_alike a b output status (inr h) (inr r) =
-    inr (record { other = (λ rest e. let marked = marks_alike a b rest h e in r.other marked.0 marked.1); output_is = r.output_is; status_is = r.status_is })
+replays_alike a b output status (inr h) r = record {
+  start = r.start;
+  items = r.items;
+  fault = r.fault;
+  reading = reading_alike a b r.start r.items r.fault h r.reading;
+  built = r.built;
+  others = r.others;
+  parts = r.parts;
+  built_fit = r.built_fit;
+  stops = r.stops;
+  output_is = r.output_is;
+  status_is = r.status_is;
+}
 
 consumed : (a b : Option (List ℕ)) (s xs : List ℕ) → Consumes a b s → a ≡ Some xs → (more : List ℕ) × (xs ≡ s ++ more)
 consumed None b s xs h e = absurd cc
@@ -128,22 +109,10 @@ complete octets output Memory status old new known answer read write replays inp
 
 -- ---- the answers of the steps
 
--- what stands behind a header, before the limit
-pub seen_of : (octets behind : List ℕ) (start n : ℕ) → (start < 2 ^ 40) × (octets ≡ header start ++ behind) → n ≡ min (length behind) 1073741815 → Seen octets start (take n behind)
-seen_of octets behind start n h e =
-    let same : take n behind ≡ take 1073741815 behind = elim (cases_lt (length behind) 1073741815) [
-      | inl short ↦ take_all n behind (omega arith) ∙ sym (take_all 1073741815 behind (omega arith))
-      | inr long ↦ (let many : n ≡ 1073741815 = omega arith in ap (λ k. take k behind) many)
-    ] in
-    record { fits = h.0; whole = ap (take limit) h.1 ∙ ap (λ t. header start ++ t) (sym same) }
-
-status_answers : (e : End) (size : ℕ) (long : Bool) → IsAnswer (status_at e size long)
-status_answers ends.Whole size false = tt
-status_answers ends.Whole size true = tt
-status_answers (ends.Fault left FirstOctet) size long = tt
-status_answers (ends.Fault left CutShort) size false = tt
-status_answers (ends.Fault left CutShort) size true = tt
-status_answers (ends.NotBuilt number) size long = tt
+status_answers : (not_built fault : Option ℕ) → IsAnswer (status_at not_built fault)
+status_answers None None = tt
+status_answers None (Some offset) = tt
+status_answers (Some number) fault = tt
 
 answers_of : (octets : List ℕ) (s : Status) (old new : HostState) → IsAnswer s → Replayed octets s old new → new.faults places.Output ≡ old.faults places.Output → Answers octets s old new
 answers_of octets Done old new is h faults = record { replayed = h; faults = faults }
@@ -154,21 +123,14 @@ answers_of octets (Read spot) old new is h faults = absurd is
 answers_of octets (Write spot) old new is h faults = absurd is
 answers_of octets Memory old new is h faults = absurd is
 
-pub ended_answers : (octets : List ℕ) (s : Status) (e : End) (size : ℕ) (long : Bool) (old new : HostState) → s ≡ status_at e size long → Replayed octets (status_at e size long) old new → new.faults places.Output ≡ old.faults places.Output → Answers octets s old new
-ended_answers octets s e size long old new is h faults =
-    subst (λ (t : Status). Answers octets t old new) (sym is) (answers_of octets (status_at e size long) old new (status_answers e size long) h faults)
+pub ended_answers : (octets : List ℕ) (s : Status) (not_built fault : Option ℕ) (old new : HostState) → s ≡ status_at not_built fault → Replayed octets (status_at not_built fault) old new → new.faults places.Output ≡ old.faults places.Output → Answers octets s old new
+ended_answers octets s not_built fault old new is h faults =
+    subst (λ (t : Status). Answers octets t old new) (sym is) (answers_of octets (status_at not_built fault) old new (status_answers not_built fault) h faults)
 
 pub replayed_front : (octets : List ℕ) (s : Status) (old new : HostState) → Replayed octets s old new → ReplayedFront octets old new
 replayed_front octets s old new h output status r =
     let same = one_replay octets output h.0 status s r h.1 in
     front_got old new h.0 [] output (same.0 ∙ sym (append-nil h.0)) h.2
-
-pub no_recording : (octets : List ℕ) (host : HostState) → IsNoRecording octets → Replayed octets (NotBuilt 0) host host
-no_recording octets host none = ([], inr (record { other = none; output_is = refl; status_is = refl }), Appends_nothing (host.got places.Output))
-
-pub no_start : (octets : List ℕ) (host : HostState) → HasNoStart octets 0 [] (Some 4) → Replayed octets (Input 4) host host
-no_start octets host h =
-    ([], inl (record { start = 0; items = []; fault = Some 4; reading = inr h; built = []; others = []; parts = refl; built_fit = tt; stops = tt; output_is = output_none 0; status_is = refl }), Appends_nothing (host.got places.Output))
 
 -- an answer leaves the count of Output as it was
 answer_faults : (octets : List ℕ) (s : Status) (old new : HostState) → IsAnswer s → Answers octets s old new → new.faults places.Output ≡ old.faults places.Output

@@ -1,27 +1,24 @@
 -- Each list of octets has a replay.
-use Rattle.std.proofs.Common.{◌≡◌, ◌∙◌, ap, sym, refl, subst, inl, inr, ℕ, zero, suc, ◌+◌, ◌*◌, ◌/◌, ◌%◌, ◌<◌, ◌≤◌, ◌⊎◌, List, [], ◌∷◌, ◌++◌, length, drop, arith, append_assoc, append-nil}
-use Rattle.std.specs.Prelude.{map, Option}
+use Rattle.std.proofs.Common.{◌≡◌, ◌∙◌, ap, sym, refl, subst, inl, inr, ℕ, zero, suc, ◌+◌, ◌*◌, ◌/◌, ◌%◌, ◌<◌, ◌≤◌, ◌⊎◌, List, [], ◌∷◌, ◌++◌, length, arith, append_assoc, append-nil, All}
+use Rattle.std.specs.Prelude.{map}
 use Rattle.std.specs.List.{flat_map, enumerate_from, AllByRecursion}
 use Rattle.std.proofs.lemmas.Bool.{cases_eq, cases_lt}
-use Rattle.std.proofs.lemmas.List.{take-append-drop}
 use Rattle.asterix_frame.specs.Blocks.{DataBlock}
 use Rattle.asterix_frame.specs.Blocks as frame
 use Rattle.tracker_session.specs.declared.report.Bearing.{Bearing}
 use Rattle.tracker_session.specs.declared.report.Bearing.TheVariants.{North, East, South, West}
 use Rattle.tracker_session.specs.declared.report.Position.{Position}
-use Rattle.tracker_session.specs.declared.status.Status.TheVariants.{NotBuilt}
 use Rattle.trk_base.specs.Numbers.{day}
 use Rattle.tracker_session.specs.Datagram.{Report, IsDescriptor, IsReport, IsBuilt, high_octet, record_of, datagram_of}
 use Rattle.tracker_session.specs.Picture.{AreBlocksOf, track_record, track_records, positions_of}
-use Rattle.tracker_session.specs.Recording.{Item, datagram, tick, spelled, IsItem, limit, header, IsReading, IsRead, ReadsSo}
+use Rattle.recording.specs.Items.{Item, datagram, tick}
+use Rattle.tracker_session.specs.Inputs.{HasReading}
 use Rattle.tracker_session.specs.Replay.{Built, reports, tick_at, item_as, IsBuiltItem, all_reports, last_of, Gives, IsOutput, StopsAt, answer_of, HasReplay}
 use Rattle.tracker_session.specs.Setting.{IsSetting}
 use Rattle.tracker_session.proofs.Builds.{reports_same}
-use Rattle.tracker_session.proofs.Octets.{IsBytes, rest_bytes, front_bytes}
 use Rattle.tracker_session.proofs.Outputs.{output_none, output_push}
-use Rattle.tracker_session.proofs.Readings.{reads_items}
 use Rattle.tracker_session.proofs.Settings.{setting_grow, setting_next, setting_end}
-use Rattle.tracker_session.proofs.SomeReading.{some_reading}
+use Rattle.tracker_session.proofs.Inputs.{some_read}
 
 -- ---- editions
 
@@ -102,11 +99,11 @@ equal a b = cases_eq a b
 below : (a b : ℕ) → Known (a < b)
 below a b = elim (cases_lt a b) [ inl lt ↦ inl lt | inr le ↦ inr (λ lt. omega (arith, lt, le)) ]
 
-descriptor_known : (d : ℕ) → d < 256 → Known (IsDescriptor d)
-descriptor_known d fits =
-    elim (both (both (below 0 (d / 32)) (equal (d / 16 % 2) 0)) (both (equal (d / 2 % 2) 0) (equal (d % 2) 0))) [
-      | inl h ↦ inl (record { in_octet = fits; detected = omega (arith, h.0.0); not_simulated = h.0.1; not_monitor = h.1.0; no_extension = h.1.1 })
-      | inr none ↦ inr (λ h. none ((omega (arith, h.detected), h.not_simulated), (h.not_monitor, h.no_extension)))
+descriptor_known : (d : ℕ) → Known (IsDescriptor d)
+descriptor_known d =
+    elim (both (below d 256) (both (both (below 0 (d / 32)) (equal (d / 16 % 2) 0)) (both (equal (d / 2 % 2) 0) (equal (d % 2) 0)))) [
+      | inl h ↦ inl (record { in_octet = h.0; detected = omega (arith, h.1.0.0); not_simulated = h.1.0.1; not_monitor = h.1.1.0; no_extension = h.1.1.1 })
+      | inr none ↦ inr (λ h. none (h.in_octet, ((omega (arith, h.detected), h.not_simulated), (h.not_monitor, h.no_extension))))
     ]
 
 record HasBearing (octet : ℕ) : Type 0 where
@@ -157,34 +154,38 @@ record Cells (a b c d e f g h i j k : ℕ) (r : Report) : Type 0 where
 cells : (a b c d e f g h i j k : ℕ) (next more : List ℕ) (r : Report) → a ∷ b ∷ c ∷ d ∷ e ∷ f ∷ g ∷ h ∷ i ∷ j ∷ k ∷ next ≡ record_of r ++ more → Cells a b c d e f g h i j k r
 cells a b c d e f g h i j k next more r e' = record { fspec = cc; sac = cc; sic = cc; time_high = cc; time_mid = cc; time_low = cc; descriptor = cc; range_high = cc; range_low = cc; azimuth_high = cc; azimuth_low = cc }
 
-record_known : (body : List ℕ) → IsBytes body → FirstRecord body ⊎ ((r : Report) (next : List ℕ) → IsReport r → body ≡ record_of r ++ next → ⊥)
-record_known (a ∷ b ∷ c ∷ d ∷ e ∷ f ∷ g ∷ h ∷ i ∷ j ∷ k ∷ next) bytes =
-    let bd : d < 256 = bytes 3 in
-    let be : e < 256 = bytes 4 in
-    let bf : f < 256 = bytes 5 in
-    let bh : h < 256 = bytes 7 in
-    let bi : i < 256 = bytes 8 in
+-- each number of the time and the range has an octet
+abbrev Octets : ℕ → ℕ → ℕ → ℕ → ℕ → Type 0
+Octets d e f h i = ((d < 256) × (e < 256)) × (((f < 256) × (h < 256)) × (i < 256))
+
+octets_known : (d e f h i : ℕ) → Known (Octets d e f h i)
+octets_known d e f h i = both (both (below d 256) (below e 256)) (both (both (below f 256) (below h 256)) (below i 256))
+
+record_known : (body : List ℕ) → FirstRecord body ⊎ ((r : Report) (next : List ℕ) → IsReport r → body ≡ record_of r ++ next → ⊥)
+record_known (a ∷ b ∷ c ∷ d ∷ e ∷ f ∷ g ∷ h ∷ i ∷ j ∷ k ∷ next) =
     let time = 65536 * d + 256 * e + f in
     let range = 256 * h + i in
-    let td : d ≡ time / 65536 % 256 = omega arith in
-    let te : e ≡ time / 256 % 256 = omega arith in
-    let tf : f ≡ time % 256 = omega arith in
-    let rh : h ≡ range / 256 % 256 = omega arith in
-    let ri : i ≡ range % 256 = omega arith in
-    elim (both (both (both (equal a 240) (equal b 1)) (both (equal c 1) (equal k 0))) (both (below time day) (both (descriptor_known g (bytes 6)) (bearing_known j)))) [
-      | inl y ↦ (let bearing = y.1.1.1 in
+    elim (both (octets_known d e f h i) (both (both (both (equal a 240) (equal b 1)) (both (equal c 1) (equal k 0))) (both (below time day) (both (descriptor_known g) (bearing_known j))))) [
+      | inl known ↦ (let o = known.0 in
+          let y = known.1 in
+          let td : d ≡ time / 65536 % 256 = omega (arith, o.0.0, o.0.1, o.1.0.0) in
+          let te : e ≡ time / 256 % 256 = omega (arith, o.0.0, o.0.1, o.1.0.0) in
+          let tf : f ≡ time % 256 = omega (arith, o.0.0, o.0.1, o.1.0.0) in
+          let rh : h ≡ range / 256 % 256 = omega (arith, o.1.0.1, o.1.1) in
+          let ri : i ≡ range % 256 = omega (arith, o.1.0.1, o.1.1) in
+          let bearing = y.1.1.1 in
           let r : Report = record { time_of_day = time; descriptor = g; plot = record { range = range; bearing = bearing.bearing } } in
           inl (record {
             report = r;
             next = next;
-            is = record { time_of_day = y.1.0; descriptor = y.1.1.0; range = omega arith };
+            is = record { time_of_day = y.1.0; descriptor = y.1.1.0; range = omega (arith, o.1.0.1, o.1.1) };
             whole = λ z. y.0.0.0 z ∷ y.0.0.1 z ∷ y.0.1.0 z ∷ td z ∷ te z ∷ tf z ∷ g ∷ rh z ∷ ri z ∷ bearing.is z ∷ y.0.1.1 z ∷ next;
           }))
       | inr none ↦ inr (λ r more is whole. (let q = cells a b c d e f g h i j k next more r whole in
           let same : time ≡ r.time_of_day = omega (arith, q.time_high, q.time_mid, q.time_low, is.time_of_day) in
-          none (((q.fspec, q.sac), (q.sic, q.azimuth_low)), (omega (arith, same, is.time_of_day), (subst IsDescriptor (sym q.descriptor) is.descriptor, record { bearing = r.plot.bearing; is = q.azimuth_high })))))
+          none (((omega (arith, q.time_high), omega (arith, q.time_mid)), ((omega (arith, q.time_low), omega (arith, q.range_high)), omega (arith, q.range_low))), (((q.fspec, q.sac), (q.sic, q.azimuth_low)), (omega (arith, same, is.time_of_day), (subst IsDescriptor (sym q.descriptor) is.descriptor, record { bearing = r.plot.bearing; is = q.azimuth_high }))))))
     ]
-record_known body bytes = inr (λ r next is whole. omega (arith, ap length whole))
+record_known body = inr (λ r next is whole. omega (arith, ap length whole))
 
 record AllRecords (body : List ℕ) : Type 0 where
   reports : List Report
@@ -201,13 +202,13 @@ no_first : (x : ℕ) (xs : List ℕ) → ((r : Report) (next : List ℕ) → IsR
 no_first x xs none [] fit e = cc
 no_first x xs none (q ∷ qs) fit e = none q (flat_map record_of qs) fit.0 e
 
-records_known : (most : ℕ) (body : List ℕ) → length body ≤ most → IsBytes body → Known (AllRecords body)
-records_known most [] short bytes = inl (record { reports = []; fit = tt; whole = refl })
-records_known zero (x ∷ xs) short bytes = absurd (omega arith)
-records_known (suc most) (x ∷ xs) short bytes =
-    elim (record_known (x ∷ xs) bytes) [
+records_known : (most : ℕ) (body : List ℕ) → length body ≤ most → Known (AllRecords body)
+records_known most [] short = inl (record { reports = []; fit = tt; whole = refl })
+records_known zero (x ∷ xs) short = absurd (omega arith)
+records_known (suc most) (x ∷ xs) short =
+    elim (record_known (x ∷ xs)) [
       | inl one ↦ (let long : length (x ∷ xs) ≡ 11 + length one.next = omega (arith, ap length one.whole) in
-          elim (records_known most one.next (omega (arith, short, long)) (rest_bytes (x ∷ xs) (record_of one.report) one.next bytes one.whole)) [
+          elim (records_known most one.next (omega (arith, short, long))) [
             | inl others ↦ inl (record { reports = one.report ∷ others.reports; fit = (one.is, others.fit); whole = one.whole ∙ ap (λ t. record_of one.report ++ t) others.whole })
             | inr none ↦ inr (λ h. no_more x xs one none h.reports h.fit h.whole)
           ])
@@ -236,10 +237,10 @@ no_records : (rs : List Report) → length rs ≤ 0 → flat_map record_of rs �
 no_records [] none = refl
 no_records (r ∷ rs) none = absurd (omega arith)
 
-built_known : (octets : List ℕ) → IsBytes octets → Known (SomeReports octets)
-built_known (a ∷ b ∷ c ∷ body) bytes =
+built_known : (octets : List ℕ) → Known (SomeReports octets)
+built_known (a ∷ b ∷ c ∷ body) =
     elim (both (equal a 48) (both (equal b ((length body + 3) / 256 % 256)) (equal c ((length body + 3) % 256)))) [
-      | inl y ↦ elim (records_known (length body) body (omega arith) (λ i. bytes (suc (suc (suc i))))) [
+      | inl y ↦ elim (records_known (length body) body (omega arith)) [
         | inl all ↦ elim (cases_lt 0 (length all.reports)) [
           | inl some ↦ (let whole : a ∷ b ∷ c ∷ body ≡ datagram_of all.reports = (λ z. y.0 z ∷ y.1.0 z ∷ y.1.1 z ∷ body) ∙ ap (λ (t : List ℕ). 48 ∷ (length t + 3) / 256 % 256 ∷ (length t + 3) % 256 ∷ t) all.whole in
               inl (record { reports = all.reports; built = record { some = some; each = all.fit; whole = whole } }))
@@ -250,7 +251,7 @@ built_known (a ∷ b ∷ c ∷ body) bytes =
       ]
       | inr none ↦ inr (λ h. none ((head_cells a b c body h.reports h.built.whole).0, length_cells a b c body h.reports h.built.whole))
     ]
-built_known octets bytes = inr (λ h. omega (arith, ap length h.built.whole))
+built_known octets = inr (λ h. omega (arith, ap length h.built.whole))
 
 record Split (items : List Item) : Type 0 where
   built : List Built
@@ -259,35 +260,33 @@ record Split (items : List Item) : Type 0 where
   fit : AllByRecursion IsBuiltItem built
   stops : StopsAt others
 
-split : (items : List Item) → AllByRecursion IsItem items → IsBytes (flat_map spelled items) → Split items
-split [] fit bytes = record { built = []; others = []; parts = refl; fit = tt; stops = tt }
-split (tick time ∷ items) fit bytes =
-    let s = split items fit.1 (rest_bytes (flat_map spelled (tick time ∷ items)) (spelled (tick time)) (flat_map spelled items) bytes refl) in
-    record { built = tick_at time ∷ s.built; others = s.others; parts = ap (λ t. tick time ∷ t) s.parts; fit = (fit.0, s.fit); stops = s.stops }
-split (datagram feed octets ∷ items) fit bytes =
-    let all = flat_map spelled (datagram feed octets ∷ items) in
-    let own : IsBytes octets = front_bytes octets (flat_map spelled items) (λ i. bytes (suc (suc (suc (suc i))))) in
-    elim (built_known octets own) [
-      | inl known ↦ (let s = split items fit.1 (rest_bytes all (spelled (datagram feed octets)) (flat_map spelled items) bytes refl) in
+split : (items : List Item) → Split items
+split [] = record { built = []; others = []; parts = refl; fit = tt; stops = tt }
+split (tick time ∷ items) =
+    let s = split items in
+    record { built = tick_at time ∷ s.built; others = s.others; parts = ap (λ t. tick time ∷ t) s.parts; fit = (tt, s.fit); stops = s.stops }
+split (datagram feed octets ∷ items) =
+    elim (built_known octets) [
+      | inl known ↦ (let s = split items in
           let same = known.built.whole in
           record {
             built = reports feed known.reports ∷ s.built;
             others = s.others;
             parts = (λ z. datagram feed (same z) ∷ s.parts z);
-            fit = ((subst (λ o. IsItem (datagram feed o)) same fit.0, subst (λ o. IsBuilt o known.reports) same known.built), s.fit);
+            fit = (subst (λ o. IsBuilt o known.reports) same known.built, s.fit);
             stops = s.stops;
           })
       | inr none ↦ record { built = []; others = datagram feed octets ∷ items; parts = refl; fit = tt; stops = (λ rs built. none (record { reports = rs; built = built })) }
     ]
 
-run_some : (octets : List ℕ) (r : IsRead octets) → IsBytes (flat_map spelled r.items) → AllByRecursion IsItem r.items → HasReplay octets
-run_some octets r bytes fit =
-    let s = split r.items fit bytes in
+replay_of : (octets : List ℕ) → HasReading octets → HasReplay octets
+replay_of octets r =
+    let s = split r.items in
     let o = output_some r.start [] s.built [] (output_none r.start) in
     record {
       output = o.out;
       status = answer_of r.fault s.others (length s.built);
-      replays = inl (record {
+      replays = record {
         start = r.start;
         items = r.items;
         fault = r.fault;
@@ -299,25 +298,8 @@ run_some octets r bytes fit =
         stops = s.stops;
         output_is = o.output;
         status_is = refl;
-      });
+      };
     }
 
-items_bytes : (octets : List ℕ) (start : ℕ) (items : List Item) (fault : Option ℕ) (h : ReadsSo octets start items fault) → IsBytes octets → IsBytes (flat_map spelled items)
-items_bytes octets start items fault h bytes =
-    let whole : octets ≡ header start ++ ((flat_map spelled items ++ h.rest) ++ drop limit octets) = sym (take-append-drop limit octets) ∙ ap (λ t. t ++ drop limit octets) (reads_items octets start items fault h) ∙ append_assoc (header start) (flat_map spelled items ++ h.rest) (drop limit octets) in
-    let behind = rest_bytes octets (header start) ((flat_map spelled items ++ h.rest) ++ drop limit octets) bytes whole in
-    front_bytes (flat_map spelled items) h.rest (front_bytes (flat_map spelled items ++ h.rest) (drop limit octets) behind)
-
-run_read : (octets : List ℕ) (r : IsRead octets) → IsBytes octets → HasReplay octets
-run_read octets r bytes = go r.reading
-  where
-    go : IsReading octets r.start r.items r.fault → HasReplay octets
-    go (inl h) = run_some octets r (items_bytes octets r.start r.items r.fault h bytes) h.items_fit
-    go (inr h) = run_some octets r (subst (λ (is : List Item). IsBytes (flat_map spelled is)) (sym h.items_are) (λ i. omega arith)) (subst (AllByRecursion IsItem) (sym h.items_are) tt)
-
-pub some_replay : (octets : List ℕ) → IsBytes octets → HasReplay octets
-some_replay octets bytes =
-    elim (some_reading octets bytes) [
-      | inl r ↦ run_read octets r bytes
-      | inr none ↦ record { output = []; status = NotBuilt 0; replays = inr (record { other = none; output_is = refl; status_is = refl }) }
-    ]
+pub some_replay : (octets : List ℕ) → All (λ octet. octet < 256) octets → HasReplay octets
+some_replay octets all = replay_of octets (some_read octets all)

@@ -3,7 +3,7 @@ use Rattle.std.specs.Prelude.{◌≡◌, ◌<◌, ◌≤◌, ◌^◌, ◌/◌, �
 use Rattle.std.specs.List.{flat_map, AllByRecursion}
 use Rattle.trk_base.specs.Numbers.{day}
 use Rattle.asterix_frame.specs.Blocks as frame
-use Rattle.tracker_session.specs.Recording.{big_endian}
+use Rattle.recording.specs.Items.{big_endian}
 use Rattle.tracker_session.specs.declared.report.Plot.{Plot}
 use Rattle.tracker_session.specs.declared.report.Bearing.{Bearing}
 use Rattle.tracker_session.specs.declared.report.Bearing.TheVariants.{North, East, South, West}

@@ -1,12 +1,13 @@
 pub mod Answers
 pub mod Datagram
-pub mod Items
+pub mod Form
+pub mod Inputs
 pub mod Picture
 pub mod Places
-pub mod Recording
 pub mod Replay
 pub mod Setting
 pub mod Status
 pub mod Steps
 pub mod Taking
+pub mod Thin
 pub mod Words

@@ -5,7 +5,7 @@ use Rattle.std.specs.Int.{w32, cast_unsigned}
 use Rattle.trk_base.specs.Numbers.{day, round}
 use Rattle.asterix_frame.specs.Blocks as frame
 use Rattle.asterix_frame.specs.Groups.{AreFilled, ungrouped}
-use Rattle.tracker_session.specs.Recording.{big_endian}
+use Rattle.recording.specs.Items.{big_endian}
 use Rattle.tracker_session.specs.declared.report.Position.{Position}
 use Rattle.tracker_session.specs.declared.report.Plot.{Plot}
 use Rattle.tracker_session.specs.declared.report.Bearing.{Bearing}

@@ -1,7 +1,8 @@
 -- What a replay gives for the octets of its input.
-use Rattle.std.specs.Prelude.{◌≡◌, ◌<◌, ◌≤◌, ◌⊎◌, ℕ, max, List, [], ◌∷◌, ◌++◌, length, map, fold, Option, Some, None, slice_index_or}
+use Rattle.std.specs.Prelude.{◌≡◌, ◌<◌, ◌≤◌, ℕ, max, List, [], ◌∷◌, ◌++◌, length, map, fold, Option, Some, None, slice_index_or}
 use Rattle.std.specs.List.{flat_map, concat, AllByRecursion}
-use Rattle.tracker_session.specs.Recording.{Item, datagram, tick, IsItem, IsReading, IsNoRecording}
+use Rattle.recording.specs.Items.{Item, datagram, tick}
+use Rattle.tracker_session.specs.Inputs.{IsRead}
 use Rattle.tracker_session.specs.Datagram.{Report, IsBuilt, datagram_of}
 use Rattle.tracker_session.specs.Picture.{IsEdition}
 use Rattle.tracker_session.specs.declared.status.Status.{Status}
@@ -17,8 +18,8 @@ item_as (reports feed rs) = datagram feed (datagram_of rs)
 item_as (tick_at time) = tick time
 
 abbrev pub IsBuiltItem : Built → Type 0
-IsBuiltItem (reports feed rs) = IsItem (datagram feed (datagram_of rs)) × IsBuilt (datagram_of rs) rs
-IsBuiltItem (tick_at time) = IsItem (tick time)
+IsBuiltItem (reports feed rs) = IsBuilt (datagram_of rs) rs
+IsBuiltItem (tick_at time) = Unit {0}
 
 -- the reports among items, and the ticks
 abbrev pub reports_in : Built → List Report
@@ -64,12 +65,12 @@ answer_of fault (item ∷ items) built = NotBuilt built
 answer_of None [] built = Done
 answer_of (Some offset) [] built = Input offset
 
--- The octets are read as items, of which those before the first that isn't built give the output.
-pub record Runs (octets output : List ℕ) (status : Status) : Type 0 where
+-- The replay of these octets gives this output and this answer: they are read as items, of which those before the first that isn't built give the output.
+pub record Replays (octets output : List ℕ) (status : Status) : Type 0 where
   pub start : ℕ
   pub items : List Item
   pub fault : Option ℕ
-  pub reading : IsReading octets start items fault
+  pub reading : IsRead octets start items fault
   pub built : List Built
   pub others : List Item
   pub parts : items ≡ map item_as built ++ others
@@ -77,16 +78,6 @@ pub record Runs (octets output : List ℕ) (status : Status) : Type 0 where
   pub stops : StopsAt others
   pub output_is : IsOutput start built output
   pub status_is : status ≡ answer_of fault others (length built)
-
--- An input that isn't a recording gives nothing.
-pub record RunsNot (octets output : List ℕ) (status : Status) : Type 0 where
-  pub other : IsNoRecording octets
-  pub output_is : output ≡ []
-  pub status_is : status ≡ NotBuilt 0
-
--- The replay of these octets gives this output and this answer.
-abbrev pub Replays : List ℕ → List ℕ → Status → Type 0
-Replays octets output status = Runs octets output status ⊎ RunsNot octets output status
 
 pub record HasReplay (octets : List ℕ) : Type 0 where
   pub output : List ℕ

@@ -1,19 +1,16 @@
 -- How far a replay has come, and what its steps do.
-use Rattle.std.specs.Prelude.{◌≡◌, ◌⊎◌, ◌-◌, ◌≤◌, ℕ, Bool, true, false, List, [], ◌∷◌, ◌++◌, length, map}
-use Rattle.std.specs.List.{flat_map, AllByRecursion}
+use Rattle.std.specs.Prelude.{◌≡◌, ◌⊎◌, ℕ, List, [], ◌∷◌, ◌++◌, length, map, Option, Some, None}
+use Rattle.std.specs.List.{AllByRecursion}
 use Rattle.io_traits.specs.Host.{HostState}
 use Rattle.io_traits.specs.declared.host.Place.TheVariants as places
-use Rattle.tracker_session.specs.declared.batch.End.{End}
-use Rattle.tracker_session.specs.declared.batch.End.TheVariants as ends
 use Rattle.tracker_session.specs.declared.batch.Picture.{Picture}
-use Rattle.tracker_session.specs.declared.recording.ItemFault.TheVariants.{FirstOctet, CutShort}
 use Rattle.tracker_session.specs.declared.report.Position.{Position}
 use Rattle.tracker_session.specs.declared.status.Status.{Status}
 use Rattle.tracker_session.specs.declared.status.Status.TheVariants.{Done, Input, NotBuilt}
 use Rattle.tracker_session.specs.Datagram.{Report, IsBuilt}
 use Rattle.tracker_session.specs.Picture.{AreBlocksOf, positions_of, track_records}
 use Rattle.tracker_session.specs.Places.{OutputGot, OutputGotFront}
-use Rattle.tracker_session.specs.Recording.{Item, datagram, tick, IsItem, IsOther, IsCutShort, spelled, limit}
+use Rattle.recording.specs.Items.{Item, datagram, tick}
 use Rattle.tracker_session.specs.Replay.{Built, item_as, IsBuiltItem, all_reports, last_of, Gives, IsOutput}
 
 -- The picture is that of these items behind the start.
@@ -65,68 +62,56 @@ abbrev pub IsNotBuilt : Item → Type 0
 IsNotBuilt (tick time) = ⊥
 IsNotBuilt (datagram feed octets) = (rs : List Report) → IsBuilt octets rs → ⊥
 
--- They begin a datagram that isn't built.
-pub record BeginsNotBuilt (octets : List ℕ) : Type 0 where
+-- They begin with a datagram that isn't built.
+pub record BeginsNotBuilt (items : List Item) : Type 0 where
   pub item : Item
-  pub next : List ℕ
-  pub fits : IsItem item
+  pub next : List Item
   pub other : IsNotBuilt item
-  pub whole : octets ≡ spelled item ++ next
+  pub whole : items ≡ item ∷ next
 
--- Of the octets these items were taken, and the rest is left; Output got their output.
-pub record HasTaken (octets : List ℕ) (start : ℕ) (built : List Built) (rest : List ℕ) (old new : HostState) : Type 0 where
+-- Of the items these were taken, and the rest is left; Output got their output.
+pub record HasTaken (items : List Item) (start : ℕ) (built : List Built) (rest : List Item) (old new : HostState) : Type 0 where
   pub fit : AllByRecursion IsBuiltItem built
-  pub parts : octets ≡ flat_map spelled (map item_as built) ++ rest
+  pub parts : items ≡ map item_as built ++ rest
   pub out : List ℕ
   pub output : IsOutput start built out
   pub got : OutputGot old new out
 
--- what stands behind the items, so many of which are built
-abbrev pub EndsAs : End → ℕ → List ℕ → Type 0
-EndsAs ends.Whole built rest = rest ≡ []
-EndsAs (ends.Fault left FirstOctet) built rest = (left ≡ length rest) × IsOther rest
-EndsAs (ends.Fault left CutShort) built rest = (left ≡ length rest) × IsCutShort rest
-EndsAs (ends.NotBuilt number) built rest = (number ≡ built) × BeginsNotBuilt rest
+-- what stands behind the items that were taken: nothing, or the datagram with that number, which isn't built
+abbrev pub EndsAs : Option ℕ → ℕ → List Item → Type 0
+EndsAs None built rest = rest ≡ []
+EndsAs (Some number) built rest = (number ≡ built) × BeginsNotBuilt rest
 
 -- The items were taken to this end.
-pub record Ends (octets : List ℕ) (start : ℕ) (end_is : End) (old new : HostState) : Type 0 where
+pub record Ends (items : List Item) (start : ℕ) (not_built : Option ℕ) (old new : HostState) : Type 0 where
   pub built : List Built
-  pub rest : List ℕ
-  pub taken : HasTaken octets start built rest old new
-  pub ends : EndsAs end_is (length built) rest
+  pub rest : List Item
+  pub taken : HasTaken items start built rest old new
+  pub ends : EndsAs not_built (length built) rest
 
 -- Taking them broke off behind some, in the piece of the next or before it.
-pub record BrokeOff (octets : List ℕ) (start : ℕ) (old new : HostState) : Type 0 where
+pub record BrokeOff (items : List Item) (start : ℕ) (old new : HostState) : Type 0 where
   pub built : List Built
   pub next : Built
-  pub rest : List ℕ
+  pub rest : List Item
   pub mid : HostState
-  pub taken : HasTaken octets start built (spelled (item_as next) ++ rest) old mid
+  pub taken : HasTaken items start built (item_as next ∷ rest) old mid
   pub fits : IsBuiltItem next
   pub piece : List ℕ
   pub gives : Gives start built next piece
   pub got : OutputGotFront mid new piece
 
 -- Output got the output of some items, of those that were taken.
-pub record StoppedBehind (octets : List ℕ) (start : ℕ) (old new : HostState) : Type 0 where
+pub record StoppedBehind (items : List Item) (start : ℕ) (old new : HostState) : Type 0 where
   pub built : List Built
-  pub rest : List ℕ
-  pub taken : HasTaken octets start built rest old new
+  pub rest : List Item
+  pub taken : HasTaken items start built rest old new
 
-abbrev pub Stopped : List ℕ → ℕ → HostState → HostState → Type 0
-Stopped octets start old new = StoppedBehind octets start old new ⊎ BrokeOff octets start old new
+abbrev pub Stopped : List Item → ℕ → HostState → HostState → Type 0
+Stopped items start old new = StoppedBehind items start old new ⊎ BrokeOff items start old new
 
--- no more octets are left than there are
-abbrev pub IsWithin : ℕ → End → Type 0
-IsWithin size ends.Whole = Unit {0}
-IsWithin size (ends.Fault left fault) = left ≤ size
-IsWithin size (ends.NotBuilt number) = Unit {0}
-
--- the answer at this end of so many octets, whether or not they reach past the limit
-abbrev pub status_at : End → ℕ → Bool → Status
-status_at ends.Whole size false = Done
-status_at ends.Whole size true = Input limit
-status_at (ends.Fault left FirstOctet) size long = Input (size - left)
-status_at (ends.Fault left CutShort) size false = Input (size - left)
-status_at (ends.Fault left CutShort) size true = Input limit
-status_at (ends.NotBuilt number) size long = NotBuilt number
+-- the answer where the items ended so, with a fault behind them or none
+abbrev pub status_at : Option ℕ → Option ℕ → Status
+status_at (Some number) fault = NotBuilt number
+status_at None (Some offset) = Input offset
+status_at None None = Done

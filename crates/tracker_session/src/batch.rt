@@ -1,26 +1,28 @@
 // The commands, step by step.
 ghost use Rattle.std.specs.Prelude.{◌≡◌, ◌≢◌, ◌<◌, ◌≤◌, ◌^◌, ◌∷◌, [], ℕ, List, length, vec_len, true, false, Ok, Option, None, Some, string_bytes, IfOk, IfErr, IfSome, IfNone, OnOk, OnErr};
+ghost use Rattle.std.specs.List.{AllByRecursion};
 ghost use Rattle.std.specs.Io.KnownBytes.{Appends, Consumes};
 ghost use Rattle.io_traits.specs.declared.host.Place.{Place};
 ghost use Rattle.io_traits.specs.declared.host.Way.{Way};
 ghost use Rattle.io_traits.specs.Host.{IsBoundFor, IsEmpty, WritesOnly};
+ghost use Rattle.recording.specs.Answers.{item_of, items_of};
+ghost use Rattle.recording.specs.Items.{IsItem};
 ghost use Rattle.tracker_session.specs.Answers.{Answers, IsAnswer, Replayed, ReplayedFront};
 ghost use Rattle.tracker_session.specs.Places.{BoundAtMost, InputHas, InputRead, InputFailed, OutputBound, OutputFailed, IsFaultless, StopsReading, StopsWriting, UsesInput, UsesInputAndOutput, UsesOutput};
-ghost use Rattle.tracker_session.specs.Items.{item_of};
-ghost use Rattle.tracker_session.specs.Recording.{IsItem};
+ghost use Rattle.tracker_session.specs.Inputs.{IsRead};
 ghost use Rattle.tracker_session.specs.Replay.{Replays};
-ghost use Rattle.tracker_session.specs.Steps.{Breaks, BreaksEdition, Ends, IsNotBuilt, IsWithin, Stopped, Takes, WritesEdition, status_at};
+ghost use Rattle.tracker_session.specs.Steps.{Breaks, BreaksEdition, Ends, IsNotBuilt, Stopped, Takes, WritesEdition, status_at};
 ghost use Rattle.tracker_session.specs.Words.{AreReplay, IsReplay, texts};
 ghost use Rattle.tracker_session.specs.declared.status.Spot.{Spot};
 ghost use Rattle.tracker_session.specs.declared.status.Status.{Status};
 
 use crate::picture::{TRACK_LIMIT, edition};
-use crate::recording::{HEADER, HeaderFault, Item, ItemFault, first_item, header_of};
 use crate::report::{Position, take_reports};
 use crate::status::{Spot, Status};
 use crate::streams::{LIMIT, ReadError, read_all, write_all};
 use crate::words::replay_names;
 use io_traits::{Failed, Host, Place, Way};
+use recording::{Item, Reading, read_front, read_recording};
 use std::alloc::Global;
 use trk_base::NoMemory;
 
@@ -61,17 +63,6 @@ fn open_output<H: Host>(alloc: Global, name: &str, host: &mut H) -> Result<(), S
         Ok(()) => Ok(()),
         Err(Failed) => Err(Status::Write(Spot::Output)),
     }
-}
-
-/// How the items of a recording ended.
-#[derive(Clone, Copy, Debug, PartialEq, Eq)]
-enum End {
-    /// Nothing is left.
-    Whole,
-    /// No item begins where so many octets are left.
-    Fault { left: usize, fault: ItemFault },
-    /// The datagram with this number among the items isn't built.
-    NotBuilt { item: u64 },
 }
 
 /// The picture so far.
@@ -127,7 +118,7 @@ fn take_item<H: Host>(
     ensures uses { WritesOnly Place.Output (H.state host.old) (H.state host.new) }
 {
     match item {
-        Item::Datagram { octets, .. } => match take_reports(octets, &mut picture.positions) {
+        Item::Datagram { bytes, .. } => match take_reports(alloc, bytes, &mut picture.positions) {
             Ok(built) => Ok(built),
             Err(NoMemory) => Err(Status::Memory),
         },
@@ -141,56 +132,53 @@ fn take_item<H: Host>(
     }
 }
 
-// Takes the items behind the start, until there are no more, one is at fault or one isn't built.
-fn take_items<H: Host>(alloc: Global, start: u64, items: &[u8], host: &mut H) -> Result<End, Status>
-    requires { IsBoundFor Way.Write (H.state host.old) Place.Output }
-    ensures ended { IfOk result (λ e. Ends items.now start e (H.state host.old) (H.state host.new)) }
+// Takes the items behind the start, to the first datagram that isn't built: its number among them, if there is one.
+fn take_items<H: Host>(
+    alloc: Global,
+    start: u64,
+    items: &[Item<'_>],
+    host: &mut H,
+) -> Result<Option<u64>, Status>
+    requires fits { AllByRecursion IsItem (items_of items.now) }
+    requires bound { IsBoundFor Way.Write (H.state host.old) Place.Output }
+    ensures ended { IfOk result (λ e. Ends (items_of items.now) start e (H.state host.old) (H.state host.new)) }
     ensures kept { OnOk result ((H.state host.new).faults Place.Output ≡ (H.state host.old).faults Place.Output) }
     ensures stops { IfErr result (λ s. StopsWriting s (H.state host.old) (H.state host.new)) }
-    ensures front { OnErr result (Stopped items.now start (H.state host.old) (H.state host.new)) }
+    ensures front { OnErr result (Stopped (items_of items.now) start (H.state host.old) (H.state host.new)) }
     ensures uses { WritesOnly Place.Output (H.state host.old) (H.state host.new) }
 {
     let mut picture = Picture {
         last: start,
         positions: Vec::new(alloc),
     };
-    let mut number = 0;
-    let mut rest = items;
-    while !rest.is_empty() {
-        let (item, next) = match first_item(rest) {
-            Ok(found) => found,
-            Err(fault) => {
-                return Ok(End::Fault {
-                    left: rest.len(),
-                    fault,
-                });
-            }
-        };
-        if !take_item(alloc, item, &mut picture, host)? {
-            return Ok(End::NotBuilt { item: number });
+    for (number, item) in items.iter().enumerate() {
+        if !take_item(alloc, *item, &mut picture, host)? {
+            return Ok(Some(number as u64));
         }
-        number += 1;
-        rest = next;
     }
-    Ok(End::Whole)
+    Ok(None)
 }
 
-// The answer at this end of a recording of so many octets, whether or not more stand past the limit.
-fn answer(end: End, size: usize, long: bool) -> Status
-    requires { IsWithin size end }
-    ensures { result ≡ status_at end size long }
+// The answer where the items ended so, with a fault behind them or none.
+fn answer(not_built: Option<u64>, fault: Option<usize>) -> Status
+    ensures { result ≡ status_at not_built fault }
 {
-    match end {
-        End::Whole if !long => Status::Done,
-        End::Whole => Status::Input { offset: LIMIT },
-        End::Fault {
-            fault: ItemFault::CutShort,
-            ..
-        } if long => Status::Input { offset: LIMIT },
-        End::Fault { left, .. } => Status::Input {
-            offset: size - left,
-        },
-        End::NotBuilt { item } => Status::NotBuilt { item },
+    match (not_built, fault) {
+        (Some(item), _) => Status::NotBuilt { item },
+        (None, Some(offset)) => Status::Input { offset },
+        (None, None) => Status::Done,
+    }
+}
+
+// What is read of an input. Of one that passes the limit it is the front up to there.
+fn read_octets(alloc: Global, octets: &[u8]) -> Result<Reading<'_>, NoMemory>
+    ensures read { IfOk result (λ r. IsRead octets.now r.start (items_of r.items.items) r.fault) }
+    ensures fits { IfOk result (λ r. AllByRecursion IsItem (items_of r.items.items)) }
+{
+    if octets.len() > LIMIT {
+        read_front(alloc, &octets[..LIMIT])
+    } else {
+        read_recording(alloc, octets)
     }
 }
 
@@ -201,14 +189,11 @@ fn replay<H: Host>(alloc: Global, octets: &[u8], host: &mut H) -> Status
     ensures front { ReplayedFront octets.now (H.state host.old) (H.state host.new) }
     ensures uses { WritesOnly Place.Output (H.state host.old) (H.state host.new) }
 {
-    let (start, items) = match header_of(octets) {
-        Ok(found) => found,
-        Err(HeaderFault::NoRecording) => return Status::NotBuilt { item: 0 },
-        Err(HeaderFault::CutShort) => return Status::Input { offset: 4 },
+    let Ok(reading) = read_octets(alloc, octets) else {
+        return Status::Memory;
     };
-    let items = &items[..items.len().min(LIMIT - HEADER)];
-    match take_items(alloc, start, items, host) {
-        Ok(end) => answer(end, HEADER + items.len(), octets.len() > LIMIT),
+    match take_items(alloc, reading.start, &reading.items, host) {
+        Ok(not_built) => answer(not_built, reading.fault),
         Err(status) => status,
     }
 }
@@ -240,15 +225,16 @@ fn run_replay<H: Host>(alloc: Global, input: &str, output: &str, host: &mut H) -
 
 /// Carries out the command that the words are, over places of which none is bound yet.
 ///
-/// The one command is `replay SETTINGS INPUT OUTPUT PRICES`, four names. It reads the recording
-/// that Input is bound to, and writes the thin picture of each of its ticks to Output. Settings
-/// and prices are named and left alone, and Screen gets nothing.
+/// The one command is `replay SETTINGS INPUT OUTPUT PRICES`, four names. It reads what Input is
+/// bound to, a recording or data blocks alone, and writes the thin picture of each of its ticks to
+/// Output. Settings and prices are named and left alone, and Screen gets nothing.
 ///
 /// - `Usage` comes exactly for other words.
 /// - `Read` comes where Input couldn't be opened or read, `Write` where Output couldn't be opened or
 ///   written, and `Memory` where memory is wanting.
-/// - Else the answer is that of the input: `NotBuilt` at its first datagram that isn't built, or
-///   where it isn't a recording; `Input` at its first fault; `Done` where it has neither.
+/// - Else the answer is that of the input: `NotBuilt` at its first datagram that isn't built;
+///   `Input` at its first fault, where no such datagram stands before it; `Done` where it has
+///   neither.
 ///
 /// What Output got is a front of the editions before that place, and at the last three all of them.
 pub fn run_batch<H: Host>(alloc: Global, words: &[String], host: &mut H) -> Status

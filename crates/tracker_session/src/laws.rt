@@ -1,14 +1,14 @@
 // Laws of the definitions that the top call's clauses cite.
-ghost use Rattle.std.specs.Prelude.{◌≡◌, ◌<◌, ◌⊎◌, ℕ, List, All, Option};
-ghost use Rattle.tracker_session.specs.Recording.{Item, IsNoRecording, IsReading, IsRead};
+ghost use Rattle.std.specs.Prelude.{◌≡◌, ◌<◌, ℕ, List, All, Option};
+ghost use Rattle.recording.specs.Items.{Item};
+ghost use Rattle.tracker_session.specs.Inputs.{HasReading, IsRead};
 ghost use Rattle.tracker_session.specs.Replay.{HasReplay, Replays};
 ghost use Rattle.tracker_session.specs.declared.status.Status.{Status};
 
-/// Octets have exactly one reading: as a recording, up to a first fault or whole, or as none.
+/// An input has exactly one reading, whether or not it passes the limit.
 pub fn one_reading()
-    ensures some { (octets : List ℕ) → All (λ octet. octet < 256) octets → IsRead octets ⊎ IsNoRecording octets }
-    ensures not_both { (octets : List ℕ) → IsRead octets → IsNoRecording octets → ⊥ }
-    ensures one { (octets : List ℕ) (s t : ℕ) (xs ys : List Item) (f g : Option ℕ) → IsReading octets s xs f → IsReading octets t ys g → (s ≡ t) × (xs ≡ ys) × (f ≡ g) }
+    ensures some { (octets : List ℕ) → All (λ octet. octet < 256) octets → HasReading octets }
+    ensures one { (octets : List ℕ) (s t : ℕ) (xs ys : List Item) (f g : Option ℕ) → IsRead octets s xs f → IsRead octets t ys g → (s ≡ t) × (xs ≡ ys) × (f ≡ g) }
 {}
 
 /// A replay has exactly one output, and one answer.

@@ -4,7 +4,6 @@
 mod batch;
 mod laws;
 mod picture;
-mod recording;
 mod report;
 mod status;
 mod streams;

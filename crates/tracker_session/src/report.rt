@@ -1,16 +1,27 @@
-// Target reports of CAT048 in the one form that the thin replay reads.
-ghost use Rattle.std.specs.Prelude.{◌≡◌, ◌<◌, ◌^◌, ◌≤◌, ◌*◌, ◌++◌, ◌∷◌, [], ℕ, ℤ, pos, List, length, vec_len, true, false, Ok, IfOk, IfSome, IfNone, IsTrue, unsigned_abs};
+// Target reports of CAT048 in the one form that the thin replay takes.
+ghost use Rattle.std.specs.Prelude.{◌≡◌, ◌<◌, ◌^◌, ◌≤◌, ◌*◌, ℕ, ℤ, pos, List, length, vec_len, true, false, Ok, IfOk, IfSome, IfNone, unsigned_abs};
+ghost use Rattle.std.specs.Bool.{OnTrue, OnFalse};
 ghost use Rattle.asterix_frame.specs.Blocks.{spelled};
 ghost use Rattle.tracker_session.specs.Picture.{half_metres};
+ghost use Rattle.tracker_session.specs.Datagram.{high_octet};
+ghost use Rattle.tracker_session.specs.Form.{BeginsForm, HasForm};
 ghost use Rattle.tracker_session.specs.Taking.{TakesReports};
-ghost use Rattle.tracker_session.specs.Datagram.{Report, IsReport, IsDescriptor, IsBuilt, high_octet, record_of};
+ghost use Rattle.tracker_session.specs.Thin.{HasPlots, IsThin, Tells};
 
 use crate::picture::TRACK_LIMIT;
-use asterix_frame::first_block;
-use trk_base::{DAY, NoMemory, round_div};
+use asterix_frame::{Block, first_block};
+use cat048_in::{ReadError, Report, read048};
+use std::alloc::Global;
+use trk_base::{NoMemory, round_div};
 
 /// The category of target reports.
 const TARGET_REPORTS: u8 = 48;
+
+/// The FSPEC of a record of the items 010, 140, 020 and 040.
+const FSPEC: u8 = 0xF0;
+
+/// Bit 1 of an octet of I048/020: the item goes on.
+const FX: u8 = 1;
 
 /// An azimuth of a quarter turn, of two, of three, or none.
 #[derive(Clone, Copy, Debug, PartialEq, Eq)]
@@ -67,99 +78,124 @@ impl Plot {
     }
 }
 
-// The plot of the report that the octets begin with, and what follows it.
-fn first_report(octets: &[u8]) -> Option<(Plot, &[u8])>
-    ensures found { IfSome result (λ x. (r : Report) × IsReport r × (octets.now ≡ record_of r ++ x.1.now) × (x.0 ≡ r.plot)) }
-    ensures none { IfNone result ((r : Report) (rest : List ℕ) → IsReport r → octets.now ≡ record_of r ++ rest → ⊥) }
-{
-    let [
-        0xF0,
-        1,
-        1,
-        t0,
-        t1,
-        t2,
-        descriptor,
-        r0,
-        r1,
-        azimuth,
-        0,
-        next @ ..,
-    ] = octets
-    else {
-        return None;
-    };
-    let time_of_day = u32::from_be_bytes([0, *t0, *t1, *t2]);
-    let bearing = bearing_of(*azimuth)?;
-    if u64::from(time_of_day) >= DAY || !is_detection(*descriptor) {
-        return None;
-    }
-    let range = u16::from_be_bytes([*r0, *r1]);
-    Some((Plot { range, bearing }, next))
-}
-
-// The bearing with this high octet of its azimuth, whose low octet is 0.
-fn bearing_of(azimuth: u8) -> Option<Bearing>
-    ensures found { IfSome result (λ b. azimuth ≡ high_octet b) }
-    ensures none { IfNone result ((b : Bearing) → azimuth ≡ high_octet b → ⊥) }
+// The bearing of an azimuth in 360/65,536 degrees.
+fn bearing_of(azimuth: u16) -> Option<Bearing>
+    ensures found { IfSome result (λ b. azimuth ≡ 256 * high_octet b) }
+    ensures none { IfNone result ((b : Bearing) → azimuth ≡ 256 * high_octet b → ⊥) }
 {
     match azimuth {
-        0x00 => Some(Bearing::North),
-        0x40 => Some(Bearing::East),
-        0x80 => Some(Bearing::South),
-        0xC0 => Some(Bearing::West),
+        0x0000 => Some(Bearing::North),
+        0x4000 => Some(Bearing::East),
+        0x8000 => Some(Bearing::South),
+        0xC000 => Some(Bearing::West),
         _ => None,
     }
 }
 
-// TYP of I048/020 isn't 0, and SIM, RAB and FX are.
-fn is_detection(descriptor: u8) -> bool
-    ensures yes { IsTrue result → IsDescriptor descriptor }
-    ensures no { IsDescriptor descriptor → IsTrue result }
+// The plot of a report of system 1/1 that is a detection, neither simulated nor of the field monitor.
+fn plot_of(report: &Report) -> Option<Plot>
+    ensures found { IfSome result (λ plot. IsThin report.now plot) }
+    ensures none { IfNone result ((plot : Plot) → IsThin report.now plot → ⊥) }
 {
-    descriptor >> 5 != 0 && (descriptor >> 4) & 1 == 0 && descriptor & 0b11 == 0
+    let Some((1, 1)) = report.source else {
+        return None;
+    };
+    let Some(1..) = report.kind else {
+        return None;
+    };
+    if report.simulated || report.monitor {
+        return None;
+    }
+    let (range, azimuth) = report.polar?;
+    let bearing = bearing_of(azimuth)?;
+    Some(Plot { range, bearing })
 }
 
-// The target reports of a datagram that is one block of CAT048.
-fn reports_of(datagram: &[u8]) -> Option<&[u8]>
-    ensures found { IfSome result (λ body. datagram.now ≡ spelled (record { category = 48; body = body.now })) }
+// What follows the record that the octets begin with, where its items are 010, 140, 020 of one octet,
+// and 040.
+fn behind_record(octets: &[u8]) -> Option<&[u8]>
+    ensures found { IfSome result (λ next. BeginsForm octets.now next.now) }
+    ensures none { IfNone result ((next : List ℕ) → BeginsForm octets.now next → ⊥) }
+{
+    match octets {
+        [FSPEC, _, _, _, _, _, descriptor, _, _, _, _, next @ ..] if descriptor & FX == 0 => Some(
+            next,
+        ),
+        _ => None,
+    }
+}
+
+// Whether a body is records of these items. A report doesn't tell which items its record has.
+fn has_form(body: &[u8]) -> bool
+    ensures yes { OnTrue result (HasForm body.now) }
+    ensures no { OnFalse result (HasForm body.now → ⊥) }
+{
+    let mut rest = body;
+    while !rest.is_empty() {
+        let Some(next) = behind_record(rest) else {
+            return false;
+        };
+        rest = next;
+    }
+    true
+}
+
+// The block of CAT048 that is all of a datagram.
+fn only_block(datagram: &[u8]) -> Option<Block<'_>>
+    ensures found { IfSome result (λ b. (b.cat ≡ 48) × (datagram.now ≡ spelled (record { category = 48; body = b.body.now }))) }
     ensures none { IfNone result ((body : List ℕ) → length datagram.now < 2 ^ 16 → datagram.now ≡ spelled (record { category = 48; body = body }) → ⊥) }
 {
     if datagram.is_empty() {
         return None;
     }
     match first_block(datagram, 0) {
-        Ok(block) if block.cat == TARGET_REPORTS && block.end() == datagram.len() => Some(
-            block.body,
-        ),
+        Ok(block) if block.cat == TARGET_REPORTS && block.end() == datagram.len() => Some(block),
         _ => None,
+    }
+}
+
+// The reports of a datagram that is one block of such records.
+fn reports_of(alloc: Global, datagram: &[u8]) -> Result<Option<Vec<Report>>, NoMemory>
+    requires short { length datagram.now < 2 ^ 16 }
+    ensures found { IfOk result (λ o. IfSome o (λ reports. Tells datagram.now reports.items)) }
+    ensures none { IfOk result (λ o. IfNone o ((plots : List Plot) → HasPlots datagram.now plots → ⊥)) }
+{
+    let Some(block) = only_block(datagram) else {
+        return Ok(None);
+    };
+    if block.body.is_empty() || !has_form(block.body) {
+        return Ok(None);
+    }
+    match read048(alloc, &block) {
+        Ok(reports) => Ok(Some(reports)),
+        Err(ReadError::Malformed(_)) => Ok(None),
+        Err(ReadError::NoMemory) => Err(NoMemory),
     }
 }
 
 /// Takes the plots of a datagram behind those so far, as far as a picture has room. It is false
 /// where the datagram isn't built.
-pub fn take_reports(datagram: &[u8], positions: &mut Vec<Position>) -> Result<bool, NoMemory>
+pub fn take_reports(
+    alloc: Global,
+    datagram: &[u8],
+    positions: &mut Vec<Position>,
+) -> Result<bool, NoMemory>
     requires short { length datagram.now < 2 ^ 16 }
     requires room { vec_len positions.old ≤ TRACK_LIMIT }
     ensures room { vec_len positions.new ≤ TRACK_LIMIT }
     ensures built { IfOk result (λ built. built ≡ true → TakesReports datagram.now positions.old.items positions.new.items) }
-    ensures other { result ≡ Ok false → (rs : List Report) → IsBuilt datagram.now rs → ⊥ }
+    ensures other { result ≡ Ok false → (plots : List Plot) → HasPlots datagram.now plots → ⊥ }
 {
-    let Some(reports) = reports_of(datagram) else {
+    let Some(reports) = reports_of(alloc, datagram)? else {
         return Ok(false);
     };
-    if reports.is_empty() {
-        return Ok(false);
-    }
-    let mut rest = reports;
-    while !rest.is_empty() {
-        let Some((plot, next)) = first_report(rest) else {
+    for report in &reports {
+        let Some(plot) = plot_of(report) else {
             return Ok(false);
         };
         if positions.len() < TRACK_LIMIT {
             positions.push(plot.position())?;
         }
-        rest = next;
     }
     Ok(true)
 }

@@ -30,8 +30,8 @@ pub enum Status {
     Write(Spot),
     /// Memory is wanting.
     Memory,
-    /// The input is in order, but the thin replay doesn't read this item of it: the number of a
-    /// datagram among the items, from 0, or 0 where the input isn't a recording.
+    /// The input has a datagram that the thin replay doesn't take, before any fault: its number among
+    /// the items, from 0.
     NotBuilt { item: u64 },
 }
 

@@ -109,12 +109,13 @@ fn behind_a_picture(rt: HostRuntime) -> Result<(), Fail> {
     Ok(())
 }
 
-/// A front of the recording, and the answer that it gives.
+/// A front of the recording, and the answer that it gives. Up to three octets it is a front of a data
+/// block, and without octets it is no block.
 #[test]
 fn cut_short(rt: HostRuntime) -> Result<(), Fail> {
     let fronts: [(usize, Status); 9] = [
-        (0, Status::NotBuilt { item: 0 }),
-        (3, Status::NotBuilt { item: 0 }),
+        (0, Status::Done),
+        (3, Status::Input { offset: 0 }),
         (4, Status::Input { offset: 4 }),
         (8, Status::Input { offset: 4 }),
         (9, Status::Done),
@@ -130,14 +131,14 @@ fn cut_short(rt: HostRuntime) -> Result<(), Fail> {
     Ok(())
 }
 
-/// Each changes one octet of the recording: its mark, the datagram's category and length, and the
-/// report's FSPEC, system, time, descriptor and azimuth.
+/// Each changes one octet of the recording: the datagram's category and length, and the report's
+/// FSPEC, system, time, descriptor and azimuth.
 #[test]
 fn not_built(rt: HostRuntime) -> Result<(), Fail> {
     let changes: [(usize, u8); 12] = [
-        (3, 0x32),
         (13, 0x22),
         (15, 0x0D),
+        (16, 0xF1),
         (16, 0xF8),
         (18, 0x02),
         (19, 0xA9),
@@ -154,6 +155,58 @@ fn not_built(rt: HostRuntime) -> Result<(), Fail> {
         input[place] = octet;
         let status = Status::NotBuilt { item: 0 };
         compare(&rt, rt.alloc(), &input, &[], status, &[])?;
+    }
+    Ok(())
+}
+
+/// The datagram's block alone has the same picture.
+#[test]
+fn raw_form(rt: HostRuntime) -> Result<(), Fail> {
+    compare(
+        &rt,
+        rt.alloc(),
+        &ONE_PLOT[13..27],
+        &[],
+        Status::Done,
+        &PICTURE,
+    )
+}
+
+/// A plot 20 units before midnight and one 108 units after it, and their pictures: the first tick comes
+/// at midnight, before the second plot, and the last one a second later.
+#[test]
+fn raw_form_over_midnight(rt: HostRuntime) -> Result<(), Fail> {
+    let input = [
+        0x30, 0x00, 0x0E, 0xF0, 0x01, 0x01, 0xA8, 0xBF, 0xEC, 0xA0, 0x01, 0x00, 0x00, 0x00, //
+        0x30, 0x00, 0x0E, 0xF0, 0x01, 0x01, 0x00, 0x00, 0x6C, 0xA0, 0x01, 0x00, 0x40, 0x00,
+    ];
+    let pictures = [
+        0x3E, 0x00, 0x13, 0x95, 0x0C, 0x01, 0x63, 0x00, 0x00, 0x00, 0x00, 0x00, 0x00, 0x00, 0x0E,
+        0x78, 0x00, 0x01, 0x80, //
+        0x3E, 0x00, 0x23, 0x95, 0x0C, 0x01, 0x63, 0x00, 0x00, 0x80, 0x00, 0x00, 0x00, 0x00, 0x0E,
+        0x78, 0x00, 0x01, 0x80, 0x95, 0x0C, 0x01, 0x63, 0x00, 0x00, 0x80, 0x00, 0x0E, 0x78, 0x00,
+        0x00, 0x00, 0x00, 0x02, 0x80,
+    ];
+    compare(&rt, rt.alloc(), &input, &[], Status::Done, &pictures)
+}
+
+/// Behind the first block stands one of another category, one whose record is cut short, or a fault.
+#[test]
+fn raw_form_with_faults(rt: HostRuntime) -> Result<(), Fail> {
+    let alloc = rt.alloc();
+    let endings: [(&[u8], Status); 4] = [
+        (&[0x15, 0x00, 0x03], Status::NotBuilt { item: 1 }),
+        (&[0x30, 0x00, 0x04, 0x81], Status::NotBuilt { item: 1 }),
+        (&[0x30, 0x00, 0x02], Status::Input { offset: 14 }),
+        (
+            &[0x30, 0x00, 0x04, 0x81, 0x30],
+            Status::NotBuilt { item: 1 },
+        ),
+    ];
+    for (ending, status) in endings {
+        let mut input = Vec::from_slice(alloc, &ONE_PLOT[13..27])?;
+        input.extend_from_slice(ending)?;
+        compare(&rt, alloc, &input, &[], status, &[])?;
     }
     Ok(())
 }

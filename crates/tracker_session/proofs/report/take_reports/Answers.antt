@@ -1,45 +1,43 @@
-use Rattle.std.proofs.Common.{rules, ◌≡◌, ◌∙◌, ◌≤◌, ◌<◌, ap, sym, subst, ℕ, List, [], ◌∷◌, ◌++◌, length, arith}
-use Rattle.std.specs.List.{flat_map, AllByRecursion}
-use Rattle.tracker_session.specs.Datagram.{Report, IsReport, record_of}
+use Rattle.std.proofs.Common.{rules, ◌≡◌, ◌≤◌, ◌<◌, ◌+◌, ◌++◌, ◌∷◌, [], sym, subst, List, length, take}
+use Rattle.std.proofs.lemmas.List.{take_all}
+use Rattle.cat048_in.specs.declared.report.Report.{Report}
+use Rattle.tracker_session.specs.declared.report.Position.{Position}
 use Rattle.tracker_session.specs.Picture.{position_of}
-use Rattle.tracker_session.proofs.Builds.{body_same, reports_front}
-use Rattle.tracker_session.proofs.TakingReports.{TakesSo, takes_grow, takes_full}
+use Rattle.tracker_session.specs.Thin.{IsThin, Tells}
+use Rattle.tracker_session.proofs.TakingReports.{TakesSo, takes_all, takes_full, takes_grow, thin_at}
 use Rattle.tracker_session.proofs.report.take_reports.Goals as goal
+use Rattle.tracker_session.proofs.report.take_reports.Goals.{then-len-lt-TRACK_LIMIT+in_ok-push, else-len-lt-TRACK_LIMIT}
 
-no_reports : (rs : List Report) → 0 < length rs → length (flat_map record_of rs) ≡ 0 → ⊥
-no_reports [] some e = omega arith
-no_reports (r ∷ rs) some e = omega (arith, e)
+pub returns-in_default-plot_of-clause-other : goal.returns-in_default-plot_of-clause-other
+returns-in_default-plot_of-clause-other c = λ e plots h.
+    let reports = c.deref-report-items.result.now in
+    let told : Tells c.args.datagram.now c.in-Some.reports.items = search rules in
+    let tells = subst (λ (rs : List Report). Tells c.args.datagram.now rs) (sym c.deref-report-items.ensures.value) told in
+    let at = thin_at reports plots c.loop-report.report-index c.report-item.result c.loop-report-test.true (tells.are_thin plots h) in
+    c.in_default-plot_of.ensures.none at.0 (subst (λ (r : Report). IsThin r at.0) (sym c.report-item.is) at.1)
 
-pub returns-then-is_empty-clause-other : goal.returns-then-is_empty-clause-other
-returns-then-is_empty-clause-other c = λ e rs built.
-    let body = body_same rs c.in-Some.reports.now (sym c.in-Some.ensures.found ∙ built.whole) in
-    let empty : length c.in-Some.reports.now ≡ 0 = search rules in
-    no_reports rs built.some (ap length (sym body) ∙ empty)
+pub loop-report-preserved : goal.loop-report-preserved
+loop-report-preserved c =
+    let reports = c.deref-report-items.result.now in
+    let so_far = c.loop-report.invariant.so_far in
+    let old = c.args.positions.now.items in
+    let thin = c.in-Some-plot_of.ensures.found in
+    elim c.if-len-lt-TRACK_LIMIT.branch [
+      | then-len-lt-TRACK_LIMIT+in_ok-push w ↦ (let many : length c.loop-report.positions.items < 65535 = search rules in
+          let grown = takes_grow reports c.loop-report.report-index old c.loop-report.positions.items c.report-item.result c.in-Some-plot_of.plot so_far c.loop-report-test.true thin c.report-item.is many in
+          let pushed : c.if-len-lt-TRACK_LIMIT.positions.items ≡ c.loop-report.positions.items ++ position_of c.in-Some-plot_of.plot ∷ [] = search rules in
+          record { room = search rules; so_far = subst (λ (ps : List Position). TakesSo (take (c.loop-report.report-index + 1) reports) old ps) (sym pushed) grown })
+      | else-len-lt-TRACK_LIMIT w ↦ (let full : 65535 ≤ length c.loop-report.positions.items = search rules in
+          let same = takes_full reports c.loop-report.report-index old c.loop-report.positions.items c.report-item.result c.in-Some-plot_of.plot so_far c.loop-report-test.true thin c.report-item.is full in
+          let kept : c.if-len-lt-TRACK_LIMIT.positions.items ≡ c.loop-report.positions.items = search rules in
+          record { room = search rules; so_far = subst (λ (ps : List Position). TakesSo (take (c.loop-report.report-index + 1) reports) old ps) (sym kept) same })
+    ]
 
--- where a record should begin and none does, the datagram isn't built
-none_begins : (rest : List ℕ) (more : List Report) → ((r : Report) (next : List ℕ) → IsReport r → rest ≡ record_of r ++ next → ⊥) → 0 < length rest → AllByRecursion IsReport more → rest ≡ flat_map record_of more → ⊥
-none_begins rest [] none some fit e = omega (arith, ap length e)
-none_begins rest (r ∷ rs) none some fit e = none r (flat_map record_of rs) fit.0 e
-
-pub returns-in_default-first_report-clause-other : goal.returns-in_default-first_report-clause-other
-returns-in_default-first_report-clause-other c = λ e rs built.
-    let so_far = c.loop-rest.invariant.so_far in
-    let body = body_same rs c.in-Some.reports.now (sym c.in-Some.ensures.found ∙ built.whole) in
-    let more = reports_front so_far.reports rs c.loop-rest.rest.now so_far.each built.each (sym so_far.parts ∙ body) in
-    none_begins c.loop-rest.rest.now more.more c.in_default-first_report.ensures.none (search rules) more.fit more.rest_is
-
-pub loop-rest-preserved-in_ok-push : goal.loop-rest-preserved-in_ok-push
-loop-rest-preserved-in_ok-push c =
-    let so_far = c.loop-rest.invariant.so_far in
-    let found = c.in-Some-first_report.ensures.found in
-    let many : length c.loop-rest.positions.items < 65535 = search rules in
-    let grown = takes_grow c.in-Some.reports.now c.loop-rest.rest.now c.in-Some-first_report.next.now c.args.positions.now.items c.loop-rest.positions.items found.0 so_far found.1 found.2 many in
-    let pushed : c.push.new.self.items ≡ c.loop-rest.positions.items ++ position_of found.0.plot ∷ [] = search rules in
-    record { room = search rules; so_far = subst (λ ps. TakesSo c.in-Some.reports.now c.in-Some-first_report.next.now c.args.positions.now.items ps) (sym pushed) grown }
-
-pub loop-rest-preserved : goal.loop-rest-preserved
-loop-rest-preserved c =
-    let so_far = c.loop-rest.invariant.so_far in
-    let found = c.in-Some-first_report.ensures.found in
-    let full : 65535 ≤ length c.loop-rest.positions.items = search rules in
-    record { room = search rules; so_far = takes_full c.in-Some.reports.now c.loop-rest.rest.now c.in-Some-first_report.next.now c.args.positions.now.items c.loop-rest.positions.items found.0 so_far found.1 found.2 full }
+pub returns-clause-built : goal.returns-clause-built
+returns-clause-built c = λ e.
+    let reports = c.deref-report-items.result.now in
+    let told : Tells c.args.datagram.now c.in-Some.reports.items = search rules in
+    let tells = subst (λ (rs : List Report). Tells c.args.datagram.now rs) (sym c.deref-report-items.ensures.value) told in
+    let all : take c.loop-report.report-index reports ≡ reports = take_all c.loop-report.report-index reports (search rules) in
+    let old = c.args.positions.now.items in
+    takes_all c.args.datagram.now reports old c.loop-report.positions.items tells (subst (λ (rs : List Report). TakesSo rs old c.loop-report.positions.items) all c.loop-report.invariant.so_far)

@@ -1,0 +1,10 @@
+pub mod BlockOctets
+pub mod BlockTimes
+pub mod Codes
+pub mod Fronts
+pub mod Octets
+pub mod Played
+pub mod Playing
+pub mod RawItems
+pub mod Readings
+pub mod SomeReading

@@ -1,0 +1,104 @@
+-- Octets have one reading.
+use Rattle.std.proofs.Common.{◌≡◌, ◌∙◌, ap, sym, refl, subst, inl, inr, length-append, ℕ, ◌≢◌, List, [], ◌∷◌, ◌++◌, length, arith}
+use Rattle.std.specs.Prelude.{Bool, Option}
+use Rattle.std.specs.List.{AllByRecursion}
+use Rattle.asterix_frame.specs.declared.tables.Uap.{Uap}
+use Rattle.asterix_frame.specs.Blocks.{DataBlock, spelling}
+use Rattle.asterix_frame.specs.Tables.{category_of}
+use Rattle.asterix_frame.specs.DataRecords.{IsDataRecord}
+use Rattle.asterix_frame.specs.Bodies.{BodyFault, body_of, times_of}
+use Rattle.asterix_frame.specs.Datagrams.{Content, IsContent, IsRead, block_of, times_of_content}
+use Rattle.asterix_frame.specs.Datagrams as datagrams
+use Rattle.asterix_frame.proofs.Bodies.{one_list, not_both}
+use Rattle.recording.specs.Endings.{fault_of}
+use Rattle.recording.specs.Items.{Item, AreItems}
+use Rattle.recording.specs.Raw.{TimedBlock, blocks_of, start_of, raw_items}
+use Rattle.recording.specs.Times.{HasTimes, IsMalformed, whole, malformed}
+use Rattle.recording.specs.Readings.{mark, header, recording, IsRecording, HasNoStart, IsRaw, Reads}
+use Rattle.recording.proofs.Codes.{written_same}
+use Rattle.recording.proofs.Octets.{items_code, headers_same}
+use Rattle.recording.proofs.BlockOctets.{blocks_code}
+
+abbrev pub Same : ℕ → ℕ → List Item → List Item → Option ℕ → Option ℕ → Type 0
+Same s t xs ys f g = (s ≡ t) × (xs ≡ ys) × (f ≡ g)
+
+-- ---- the recording form
+
+recordings_same : (octets : List ℕ) (goes_on : Bool) (s t : ℕ) (xs ys : List Item) (f g : Option ℕ) → IsRecording octets goes_on s xs f → IsRecording octets goes_on t ys g → Same s t xs ys f g
+recordings_same octets goes_on s t xs ys f g h k =
+    let starts = headers_same s t h.behind k.behind h.start_fits k.start_fits (sym h.whole ∙ k.whole) in
+    let things = written_same items_code h.behind xs ys h.ending k.ending h.items_are (subst (λ b. AreItems b ys k.ending) (sym starts.1) k.items_are) in
+    (starts.0, things.0, h.fault_is ∙ (λ i. fault_of (things.1 i) goes_on (length (recording (starts.0 i) (things.0 i))) (length octets)) ∙ sym k.fault_is)
+
+start_cut : (octets : List ℕ) (goes_on : Bool) (s t : ℕ) (xs ys : List Item) (f g : Option ℕ) → IsRecording octets goes_on s xs f → HasNoStart octets t ys g → ⊥
+start_cut octets goes_on s t xs ys f g h k = omega (arith, ap length h.whole, length-append (header s) h.behind, ap length k.whole, k.short)
+
+-- ---- the raw form
+
+categories : (uap uap' : Uap) → IsRead uap → IsRead uap' → category_of uap ≡ category_of uap' → uap ≡ uap'
+categories uap uap' (inl a) (inl b) e = a ∙ sym b
+categories uap uap' (inl a) (inr b) e = absurd (omega (arith, sym (ap category_of a) ∙ e ∙ ap category_of b))
+categories uap uap' (inr a) (inl b) e = absurd (omega (arith, sym (ap category_of a) ∙ e ∙ ap category_of b))
+categories uap uap' (inr a) (inr b) e = a ∙ sym b
+
+other_category : (uap : Uap) (category : ℕ) → IsRead uap → category ≢ 34 → category ≢ 48 → category_of uap ≡ category → ⊥
+other_category uap category (inl a) n m e = n (sym e ∙ ap category_of a)
+other_category uap category (inr a) n m e = m (sym e ∙ ap category_of a)
+
+whole_same : (b : DataBlock) (c d : Content) → IsContent c → IsContent d → b ≡ block_of c → b ≡ block_of d → times_of_content c ≡ times_of_content d
+whole_same b (datagrams.records uap rs) (datagrams.records uap' rs') h k e e' =
+    let uaps = categories uap uap' h.0 k.0 (ap (λ b. b.category) (sym e ∙ e')) in
+    let bodies : body_of rs ≡ body_of rs' = ap (λ b. b.body) (sym e ∙ e') in
+    let one = one_list uap' (body_of rs') rs rs' (record { are_records = subst (λ u. AllByRecursion (IsDataRecord u) rs) uaps h.1; whole = sym bodies }) (record { are_records = k.1; whole = refl }) in
+    λ i. times_of (uaps i) (one i)
+whole_same b (datagrams.records uap rs) (datagrams.other category body) h k e e' = absurd (other_category uap category h.0 k.0 k.1 (ap (λ b. b.category) (sym e ∙ e')))
+whole_same b (datagrams.other category body) (datagrams.records uap rs) h k e e' = absurd (other_category uap category k.0 h.0 h.1 (ap (λ b. b.category) (sym e' ∙ e)))
+whole_same b (datagrams.other category body) (datagrams.other category' body') h k e e' = refl
+
+malformed_whole : (b : DataBlock) (c : Content) → IsMalformed b → IsContent c → b ≡ block_of c → ⊥
+malformed_whole b (datagrams.records uap rs) m h e =
+    let uaps = categories m.uap uap m.is_read h.0 (sym m.category ∙ ap (λ b. b.category) e) in
+    not_both uap b.body rs m.place m.cause (record { are_records = h.1; whole = ap (λ b. b.body) e }) (subst (λ u. BodyFault u b.body m.place m.cause) uaps m.fault)
+malformed_whole b (datagrams.other category body) m h e = other_category m.uap category m.is_read h.0 h.1 (sym m.category ∙ ap (λ b. b.category) e)
+
+times_same : (b : DataBlock) (times times' : List ℕ) → HasTimes (record { block = b; times = times }) → HasTimes (record { block = b; times = times' }) → times ≡ times'
+times_same b times times' (whole c h e t) (whole d k e' t') = t ∙ whole_same b c d h k e e' ∙ sym t'
+times_same b times times' (whole c h e t) (malformed m t') = absurd (malformed_whole b c m h e)
+times_same b times times' (malformed m t) (whole c h e t') = absurd (malformed_whole b c m h e)
+times_same b times times' (malformed m t) (malformed n t') = t ∙ sym t'
+
+both_heads : (b c : DataBlock) (bs cs : List DataBlock) → b ∷ bs ≡ c ∷ cs → (b ≡ c) × (bs ≡ cs)
+both_heads b c bs cs e = (cc, cc)
+
+timed_same : (bs cs : List TimedBlock) → blocks_of bs ≡ blocks_of cs → AllByRecursion HasTimes bs → AllByRecursion HasTimes cs → bs ≡ cs
+timed_same [] [] e h k = refl
+timed_same [] (c ∷ cs) e h k = absurd (omega (arith, ap length e))
+timed_same (b ∷ bs) [] e h k = absurd (omega (arith, ap length e))
+timed_same (b ∷ bs) (c ∷ cs) e h k =
+    let heads = both_heads b.block c.block (blocks_of bs) (blocks_of cs) e in
+    let times = times_same c.block b.times c.times (subst (λ d. HasTimes (record { block = d; times = b.times })) heads.0 h.0) k.0 in
+    let rest = timed_same bs cs heads.1 h.1 k.1 in
+    λ i. record { block = heads.0 i; times = times i } ∷ rest i
+
+raws_same : (octets : List ℕ) (goes_on : Bool) (s t : ℕ) (xs ys : List Item) (f g : Option ℕ) → IsRaw octets goes_on s xs f → IsRaw octets goes_on t ys g → Same s t xs ys f g
+raws_same octets goes_on s t xs ys f g h k =
+    let things = written_same blocks_code octets (blocks_of h.blocks) (blocks_of k.blocks) h.ending k.ending h.blocks_are k.blocks_are in
+    let timed = timed_same h.blocks k.blocks things.0 h.timed k.timed in
+    let fault : f ≡ g = h.fault_is ∙ (λ i. fault_of (things.1 i) goes_on (length (spelling (things.0 i))) (length octets)) ∙ sym k.fault_is in
+    (h.start_is ∙ ap start_of timed ∙ sym k.start_is, h.items_are ∙ (λ i. raw_items (timed i) (fault i)) ∙ sym k.items_are, fault)
+
+-- ---- both
+
+marked : (octets : List ℕ) (start : ℕ) (behind : List ℕ) → ((rest : List ℕ) → octets ≢ mark ++ rest) → octets ≡ header start ++ behind → ⊥
+marked octets start behind none e = none _ e
+
+pub one_reading : (octets : List ℕ) (goes_on : Bool) (s t : ℕ) (xs ys : List Item) (f g : Option ℕ) → Reads octets goes_on s xs f → Reads octets goes_on t ys g → Same s t xs ys f g
+one_reading octets goes_on s t xs ys f g (inl h) (inl k) = recordings_same octets goes_on s t xs ys f g h k
+one_reading octets goes_on s t xs ys f g (inl h) (inr (inl k)) = absurd (start_cut octets goes_on s t xs ys f g h k)
+one_reading octets goes_on s t xs ys f g (inl h) (inr (inr k)) = absurd (marked octets s h.behind k.unmarked h.whole)
+one_reading octets goes_on s t xs ys f g (inr (inl h)) (inl k) = absurd (start_cut octets goes_on t s ys xs g f k h)
+one_reading octets goes_on s t xs ys f g (inr (inl h)) (inr (inl k)) = (h.start_is ∙ sym k.start_is, h.items_are ∙ sym k.items_are, h.fault_is ∙ sym k.fault_is)
+one_reading octets goes_on s t xs ys f g (inr (inl h)) (inr (inr k)) = absurd (k.unmarked h.few h.whole)
+one_reading octets goes_on s t xs ys f g (inr (inr h)) (inl k) = absurd (marked octets t k.behind h.unmarked k.whole)
+one_reading octets goes_on s t xs ys f g (inr (inr h)) (inr (inl k)) = absurd (h.unmarked k.few k.whole)
+one_reading octets goes_on s t xs ys f g (inr (inr h)) (inr (inr k)) = raws_same octets goes_on s t xs ys f g h k
