@@ -8,3 +8,6 @@ pub mod Names
 pub mod Parts
 pub mod Items
 pub mod Records
+pub mod DataRecords
+pub mod Bodies
+pub mod Datagrams

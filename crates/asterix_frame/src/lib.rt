@@ -2,7 +2,9 @@
 #![tactic(auto)]
 
 mod block;
+mod body;
 pub mod cause;
+mod datagram;
 mod framing;
 mod items;
 mod presence;
@@ -11,6 +13,8 @@ mod walk;
 mod writer;
 
 pub use block::{Block, BlocksError, Malformed};
+pub use body::{first_record, one_body, records};
+pub use datagram::one_datagram;
 pub use framing::{blocks, first_block, one_reading};
 pub use tables::{Compound, Item, Subfield, Uap};
 pub use walk::{ItemSpans, ItemWalk, WalkError, one_walk, walk_items, walk_record};

@@ -89,7 +89,7 @@ pub enum Uap {
 
 impl Uap {
     ghost use Rattle.std.specs.Prelude.{◌≡◌};
-    ghost use Rattle.asterix_frame.specs.Tables.{table_of};
+    ghost use Rattle.asterix_frame.specs.Tables.{table_of, time_frn};
 
     /// The items by FRN, from 1 on.
     pub fn table(self) -> &'static [Item]
@@ -101,6 +101,17 @@ impl Uap {
             Uap::Cat062 => &CAT062,
             Uap::Cat063 => &CAT063,
             Uap::Cat065 => &CAT065,
+        }
+    }
+
+    /// The FRN of the time of day: I034/030, I048/140, I062/070, I063/030 or I065/030. It has three octets, in 1/128 s.
+    pub fn time_of_day(self) -> u8
+        ensures { result ≡ time_frn self }
+    {
+        match self {
+            Uap::Cat034 | Uap::Cat063 => 3,
+            Uap::Cat048 => 2,
+            Uap::Cat062 | Uap::Cat065 => 4,
         }
     }
 }

@@ -1,0 +1,87 @@
+-- The body of a block as a list of records, and where they lie in it.
+use Rattle.std.specs.Prelude.{◌≡◌, ℕ, ◌+◌, ◌-◌, ◌<◌, ◌≤◌, List, [], ◌∷◌, ◌++◌, length, map, take, drop, All}
+use Rattle.std.specs.List.{flat_map, filter_map, AllByRecursion}
+use Rattle.asterix_frame.specs.declared.block.Malformed.{Malformed}
+use Rattle.asterix_frame.specs.declared.block.Block.{Block}
+use Rattle.asterix_frame.specs.declared.tables.Uap.{Uap}
+use Rattle.asterix_frame.specs.declared.walk.ItemSpans.{ItemSpans}
+use Rattle.asterix_frame.specs.Parts.{Part}
+use Rattle.asterix_frame.specs.Records.{spans, LiesIn}
+use Rattle.asterix_frame.specs.DataRecords.{DataRecord, IsDataRecord, record_octets, BeginsNoDataRecord, time_of}
+
+-- ---- the grammar
+
+abbrev pub AreDataRecords : Uap → List DataRecord → Type 0
+AreDataRecords uap rs = AllByRecursion (IsDataRecord uap) rs
+
+-- the octets of a body of these records
+abbrev pub body_of : List DataRecord → List ℕ
+body_of rs = flat_map record_octets rs
+
+-- the body is these records
+pub record IsBody (uap : Uap) (body : List ℕ) (rs : List DataRecord) : Type 0 where
+  pub are_records : AreDataRecords uap rs
+  pub whole : body ≡ body_of rs
+
+-- The body is whole records, and then octets that begin none: the fault's place in the body, and its cause.
+pub record BodyFault (uap : Uap) (body : List ℕ) (place cause : ℕ) : Type 0 where
+  pub front : List DataRecord
+  pub rest : List ℕ
+  pub inside : ℕ
+  pub are_records : AreDataRecords uap front
+  pub whole : body ≡ body_of front ++ rest
+  pub none : BeginsNoDataRecord uap rest inside cause
+  pub place_is : place ≡ length (body_of front) + inside
+
+-- what is told of a block that has no record from that place of its body on
+pub record IsFaultFrom (uap : Uap) (block : Block) (from : ℕ) (m : Malformed) : Type 0 where
+  pub inside : ℕ
+  pub none : BeginsNoDataRecord uap (drop from block.body.now) inside m.cause
+  pub offset : m.offset ≡ block.at + from + inside
+
+-- what is told of a block whose body isn't records
+pub record IsFaultOfBody (uap : Uap) (block : Block) (m : Malformed) : Type 0 where
+  pub place : ℕ
+  pub fault : BodyFault uap block.body.now place m.cause
+  pub offset : m.offset ≡ block.at + place
+
+-- the times of day of these records, in order
+abbrev pub times_of : Uap → List DataRecord → List ℕ
+times_of uap rs = filter_map (λ r. time_of uap r.items) rs
+
+-- ---- items by their places
+
+-- an FRN from 1 on, and a place in the body
+abbrev pub IsSpan : List ℕ → ℕ × ℕ × ℕ → Type 0
+IsSpan body span = (1 ≤ span.0) × LiesIn body span
+
+-- what lies there
+abbrev pub part_at : List ℕ → ℕ × ℕ × ℕ → Part
+part_at body span = record { number = span.0 - 1; octets = take (span.2 - span.1) (drop span.1 body) }
+
+abbrev pub parts_at : List ℕ → List (ℕ × ℕ × ℕ) → List Part
+parts_at body found = map (part_at body) found
+
+-- the body has this record from that place on, with items at these places, and its end
+pub record HasDataRecord (uap : Uap) (body : List ℕ) (from : ℕ) (r : DataRecord) (found : ItemSpans) : Type 0 where
+  pub is_record : IsDataRecord uap r
+  pub octets : drop from body ≡ record_octets r ++ drop found.next body
+  pub items : parts_at body found.frns.items ≡ r.items
+  pub places : found.frns.items ≡ spans (from + length r.fspec) r.items
+  pub next : found.next ≡ from + length (record_octets r)
+
+-- the body has these records from that place on, and their items lie there
+abbrev pub HaveDataRecords : Uap → List ℕ → ℕ → List DataRecord → List ItemSpans → Type 0
+HaveDataRecords uap body from [] [] = Unit {0}
+HaveDataRecords uap body from (r ∷ rs) (found ∷ more) = HasDataRecord uap body from r found × HaveDataRecords uap body found.next rs more
+HaveDataRecords uap body from _ _ = ⊥
+
+-- the places lie in the body
+abbrev pub AreSpans : List ℕ → ItemSpans → Type 0
+AreSpans body found = All (IsSpan body) found.frns.items
+
+-- the body is records, whose items lie at these places
+pub record HasRecords (uap : Uap) (body : List ℕ) (found : List ItemSpans) : Type 0 where
+  pub records : List DataRecord
+  pub is_body : IsBody uap body records
+  pub have : HaveDataRecords uap body 0 records found

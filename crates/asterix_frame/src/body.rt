@@ -1,0 +1,118 @@
+// The records of a block, with their times of day judged.
+ghost use Rattle.std.specs.Prelude.{◌≡◌, ◌<◌, ◌≤◌, ◌++◌, ◌⊎◌, ℕ, List, length, drop, All, IfOk};
+ghost use Rattle.asterix_frame.specs.declared.block.Malformed.{Malformed};
+ghost use Rattle.asterix_frame.specs.declared.tables.Uap.{Uap};
+ghost use Rattle.asterix_frame.specs.Answers.{Reads, Refuses, IfMalformed};
+ghost use Rattle.asterix_frame.specs.DataRecords.{DataRecord, IsDataRecord, record_octets};
+ghost use Rattle.asterix_frame.specs.Bodies.{IsBody, BodyFault, IsFaultFrom, IsFaultOfBody, HasDataRecord, HaveDataRecords, HasRecords, AreSpans};
+
+use crate::cause::TIME_RANGE;
+use crate::tables::Uap;
+use crate::walk::{ItemSpans, ItemWalk, walk_items};
+use crate::{Block, BlocksError, Malformed};
+use std::alloc::Global;
+use trk_base::DAY;
+
+/// The record that begins at a place of a block's body, where it is whole and its time of day, if it has one, is below a day.
+///
+/// It is refused exactly where none begins there, by the first fault from the left, with one of the causes `FSPEC_END` to `TIME_RANGE`. A time of day is judged when its item is whole, so before a later item that is cut short.
+pub fn first_record(
+    alloc: Global,
+    uap: Uap,
+    block: &Block<'_>,
+    from: usize,
+) -> Result<ItemSpans, BlocksError>
+    requires { from < length block.now.body.now }
+    ensures found { IfOk result (λ s. (r : DataRecord) × HasDataRecord uap block.now.body.now from r s) }
+    ensures spans { IfOk result (λ s. AreSpans block.now.body.now s) }
+    ensures advances { IfOk result (λ s. (from < s.next) × (s.next ≤ length block.now.body.now)) }
+    ensures malformed { IfMalformed result (λ m. IsFaultFrom uap block.now from m) }
+
+    // The other directions, unless memory is wanting.
+    ensures reads { (r : DataRecord) (rest : List ℕ) → IsDataRecord uap r → drop from block.now.body.now ≡ record_octets r ++ rest → Reads result (λ s. HasDataRecord uap block.now.body.now from r s) }
+    ensures refuses { (m : Malformed) → IsFaultFrom uap block.now from m → Refuses result (λ x. x ≡ m) }
+{
+    let ItemWalk { frns, end } = walk_items(alloc, uap, block, from)?;
+    if let Some(first) = late_time(uap, block.body, &frns) {
+        return Err(BlocksError::Malformed(Malformed {
+            offset: block.at + first,
+            cause: TIME_RANGE,
+        }));
+    }
+    let next = end?;
+    Ok(ItemSpans { frns, next })
+}
+
+/// The records of a block, in order. A block without octets in its body has none.
+///
+/// It is refused exactly where the body isn't a list of whole records whose times of day are below a day, by the first fault from the left, with one of the causes `FSPEC_END` to `TIME_RANGE`.
+pub fn records(alloc: Global, uap: Uap, block: &Block<'_>) -> Result<Vec<ItemSpans>, BlocksError>
+    ensures found { IfOk result (λ v. HasRecords uap block.now.body.now v.items) }
+    ensures spans { IfOk result (λ v. All (AreSpans block.now.body.now) v.items) }
+    ensures malformed { IfMalformed result (λ m. IsFaultOfBody uap block.now m) }
+
+    // The other directions, unless memory is wanting.
+    ensures reads { (rs : List DataRecord) → IsBody uap block.now.body.now rs → Reads result (λ v. HaveDataRecords uap block.now.body.now 0 rs v.items) }
+    ensures refuses { (m : Malformed) → IsFaultOfBody uap block.now m → Refuses result (λ x. x ≡ m) }
+{
+    let mut found = Vec::new(alloc);
+    let mut from = 0;
+    while from < block.body.len() {
+        let one = first_record(alloc, uap, block, from)?;
+        from = one.next;
+        found.push(one)?;
+    }
+    Ok(found)
+}
+
+// The place of the time of day, where it isn't below a day.
+fn late_time(uap: Uap, body: &[u8], frns: &[(u8, usize, usize)]) -> Option<usize> {
+    let frn = uap.time_of_day();
+    let (_, first, end) = frns.iter().find(|span| span.0 == frn)?;
+    let time = time_in(&body[*first..*end])?;
+    if u64::from(time) < DAY {
+        None
+    } else {
+        Some(*first)
+    }
+}
+
+// The time of day in three octets.
+fn time_in(octets: &[u8]) -> Option<u32> {
+    match octets {
+        [high, middle, low] => Some(u32::from_be_bytes([0, *high, *middle, *low])),
+        _ => None,
+    }
+}
+
+impl ItemSpans {
+    ghost use Rattle.std.specs.Prelude.{◌≡◌};
+    ghost use Rattle.std.specs.Option.{option_map};
+    ghost use Rattle.asterix_frame.specs.DataRecords.{item, time_of};
+    ghost use Rattle.asterix_frame.specs.Bodies.{AreSpans, parts_at};
+
+    /// The octets of the item with that FRN, if the record has it. `body` is that of the record's block.
+    pub fn item<'a>(&self, body: &'a [u8], frn: u8) -> Option<&'a [u8]>
+        requires { AreSpans body.now self.now }
+        ensures { option_map (λ octets. octets.now) result ≡ item frn (parts_at body.now self.now.frns.items) }
+    {
+        let (_, first, end) = self.frns.iter().find(|span| span.0 == frn)?;
+        Some(&body[*first..*end])
+    }
+
+    /// The record's time of day in 1/128 s, if it has one. `body` is that of the record's block.
+    pub fn time_of_day(&self, uap: Uap, body: &[u8]) -> Option<u32>
+        requires { AreSpans body.now self.now }
+        ensures { result ≡ time_of uap (parts_at body.now self.now.frns.items) }
+    {
+        time_in(self.item(body, uap.time_of_day())?)
+    }
+}
+
+/// A body has exactly one reading: as whole records, or as a first fault.
+pub fn one_body()
+    ensures some { (uap : Uap) (body : List ℕ) → ((rs : List DataRecord) × IsBody uap body rs) ⊎ ((place : ℕ) × (cause : ℕ) × BodyFault uap body place cause) }
+    ensures one_list { (uap : Uap) (body : List ℕ) (rs rs' : List DataRecord) → IsBody uap body rs → IsBody uap body rs' → rs ≡ rs' }
+    ensures one_fault { (uap : Uap) (body : List ℕ) (p c p' c' : ℕ) → BodyFault uap body p c → BodyFault uap body p' c' → (p ≡ p') × (c ≡ c') }
+    ensures not_both { (uap : Uap) (body : List ℕ) (rs : List DataRecord) (place cause : ℕ) → IsBody uap body rs → BodyFault uap body place cause → ⊥ }
+{}
