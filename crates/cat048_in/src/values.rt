@@ -1,0 +1,130 @@
+// What the octets of one item say.
+ghost use Rattle.std.specs.Prelude.{◌≡◌, ◌≤◌};
+ghost use Rattle.cat048_in.specs.Values.{has_bit, is_doubtful, source_of, kind_of, simulated_of, spi_of, monitor_of, test_of, polar_of, code_of, level_of, address_of};
+
+/// V, of I048/070 and I048/090: the value isn't validated.
+const NOT_VALIDATED: u32 = 16;
+
+/// G, of I048/070 and I048/090: the value is garbled.
+const GARBLED: u32 = 15;
+
+// Whether bit n of a number is set. Bit 1 is the lowest.
+fn has_bit(number: u16, n: u32) -> bool
+    requires some { 1 ≤ n }
+    requires within { n ≤ 16 }
+    ensures { result ≡ has_bit number n }
+{
+    number >> (n - 1) & 1 == 1
+}
+
+// Whether a code or a level isn't validated or is garbled.
+fn is_doubtful(number: u16) -> bool
+    ensures { result ≡ is_doubtful number }
+{
+    has_bit(number, NOT_VALIDATED) || has_bit(number, GARBLED)
+}
+
+/// System area code and system identification code, of I048/010.
+pub(crate) fn source_of(octets: &[u8]) -> Option<(u8, u8)>
+    ensures { result ≡ source_of octets.now }
+{
+    match octets {
+        [sac, sic] => Some((*sac, *sic)),
+        _ => None,
+    }
+}
+
+/// TYP, of I048/020.
+pub(crate) fn kind_of(octets: &[u8]) -> Option<u8>
+    ensures { result ≡ kind_of octets.now }
+{
+    let first = octets.first()?;
+    Some(first >> 5)
+}
+
+/// SIM, of I048/020.
+pub(crate) fn simulated_of(octets: &[u8]) -> bool
+    ensures { result ≡ simulated_of octets.now }
+{
+    octets.first().is_some_and(|first| has_bit(u16::from(*first), 5))
+}
+
+/// SPI, of I048/020.
+pub(crate) fn spi_of(octets: &[u8]) -> bool
+    ensures { result ≡ spi_of octets.now }
+{
+    octets.first().is_some_and(|first| has_bit(u16::from(*first), 3))
+}
+
+/// RAB, of I048/020.
+pub(crate) fn monitor_of(octets: &[u8]) -> bool
+    ensures { result ≡ monitor_of octets.now }
+{
+    octets.first().is_some_and(|first| has_bit(u16::from(*first), 2))
+}
+
+/// TST, of I048/020.
+pub(crate) fn test_of(octets: &[u8]) -> bool
+    ensures { result ≡ test_of octets.now }
+{
+    match octets {
+        [_, extension, ..] => has_bit(u16::from(*extension), 8),
+        _ => false,
+    }
+}
+
+/// RHO and THETA, of I048/040.
+pub(crate) fn polar_of(octets: &[u8]) -> Option<(u16, u16)>
+    ensures { result ≡ polar_of octets.now }
+{
+    match octets {
+        [r1, r0, t1, t0] => Some((
+            u16::from_be_bytes([*r1, *r0]),
+            u16::from_be_bytes([*t1, *t0]),
+        )),
+        _ => None,
+    }
+}
+
+/// The code of I048/070, unless it isn't validated or is garbled.
+pub(crate) fn code_of(octets: &[u8]) -> Option<u16>
+    ensures { result ≡ code_of octets.now }
+{
+    let [high, low] = octets else {
+        return None;
+    };
+    let number = u16::from_be_bytes([*high, *low]);
+    if is_doubtful(number) {
+        return None;
+    }
+    Some(number % 0x1000)
+}
+
+/// The level of I048/090, unless it isn't validated or is garbled.
+pub(crate) fn level_of(octets: &[u8]) -> Option<i16>
+    ensures { result ≡ level_of octets.now }
+{
+    let [high, low] = octets else {
+        return None;
+    };
+    let number = u16::from_be_bytes([*high, *low]);
+    if is_doubtful(number) {
+        return None;
+    }
+    let level = (number % 0x4000) as i16;
+    if level < 0x2000 {
+        Some(level)
+    } else {
+        Some(level - 0x4000)
+    }
+}
+
+/// The address of I048/220.
+pub(crate) fn address_of(octets: &[u8]) -> Option<u32>
+    ensures { result ≡ address_of octets.now }
+{
+    match octets {
+        [high, middle, low] => Some(u32::from_be_bytes([0, *high, *middle, *low])),
+        _ => None,
+    }
+}
