@@ -8,3 +8,4 @@ pub mod Codes
 pub mod ItemCodes
 pub mod RecordCodes
 pub mod Totals
+pub mod Sequences

@@ -1,10 +1,10 @@
 -- A whole datagram: blocks, of which those of radar messages (category 34) and target reports (category 48) are lists of records, and all others are passed over.
-use Rattle.std.specs.Prelude.{◌≡◌, ◌≢◌, ◌⊎◌, ℕ, ◌+◌, List, [], ◌∷◌, ◌++◌, length, map}
+use Rattle.std.specs.Prelude.{◌≡◌, ◌≢◌, ◌⊎◌, ℕ, ◌+◌, List, [], ◌∷◌, ◌++◌, length}
 use Rattle.std.specs.List.{flat_map, AllByRecursion}
 use Rattle.asterix_frame.specs.declared.tables.Uap.{Uap}
 use Rattle.asterix_frame.specs.declared.tables.Uap.TheVariants.{Cat034, Cat048}
 use Rattle.asterix_frame.specs.Tables.{category_of}
-use Rattle.asterix_frame.specs.Blocks.{DataBlock, IsDataBlock, BeginsNone, spelled, spelling}
+use Rattle.asterix_frame.specs.Blocks.{DataBlock, IsDataBlock, BeginsNone, spelled}
 use Rattle.asterix_frame.specs.DataRecords.{DataRecord}
 use Rattle.asterix_frame.specs.Bodies.{AreDataRecords, BodyFault, body_of, times_of}
 
@@ -27,41 +27,39 @@ IsContent (other category body) = (category ≢ 34) × (category ≢ 48) × IsDa
 
 -- the octets of a datagram of these blocks
 abbrev pub datagram_of : List Content → List ℕ
-datagram_of cs = spelling (map block_of cs)
+datagram_of cs = flat_map (λ c. spelled (block_of c)) cs
 
 -- the datagram is these blocks
 pub record IsDatagram (octets : List ℕ) (cs : List Content) : Type 0 where
   pub are_contents : AllByRecursion IsContent cs
   pub whole : octets ≡ datagram_of cs
 
--- whole blocks, and then octets that begin none
-pub record HeadFault (octets : List ℕ) (offset cause : ℕ) : Type 0 where
+-- a whole block of a category that is read, whose body isn't records
+pub record BeginsFaultyBlock (octets : List ℕ) (inside cause : ℕ) : Type 0 where
+  pub uap : Uap
+  pub body : List ℕ
+  pub rest : List ℕ
+  pub place : ℕ
+  pub is_read : IsRead uap
+  pub is_block : IsDataBlock (record { category = category_of uap; body = body })
+  pub begins : octets ≡ spelled (record { category = category_of uap; body = body }) ++ rest
+  pub fault : BodyFault uap body place cause
+  pub inside_is : inside ≡ 3 + place
+
+-- What stands where a block should begin, and begins none: what is told, how far in, and its cause.
+pub data BeginsNoContent (octets : List ℕ) (inside cause : ℕ) : Type 0 where
+  no_block : BeginsNone octets inside cause → BeginsNoContent octets inside cause
+  no_records : BeginsFaultyBlock octets inside cause → BeginsNoContent octets inside cause
+
+-- The datagram is whole blocks, and then octets that begin none: its first fault, in the order of reading.
+pub record DatagramFault (octets : List ℕ) (offset cause : ℕ) : Type 0 where
   pub front : List Content
   pub rest : List ℕ
   pub inside : ℕ
   pub are_contents : AllByRecursion IsContent front
   pub whole : octets ≡ datagram_of front ++ rest
-  pub none : BeginsNone rest inside cause
+  pub none : BeginsNoContent rest inside cause
   pub place : offset ≡ length (datagram_of front) + inside
-
--- whole blocks, and then one with a whole head, whose body isn't records
-pub record RecordsFault (octets : List ℕ) (offset cause : ℕ) : Type 0 where
-  pub front : List Content
-  pub uap : Uap
-  pub body : List ℕ
-  pub rest : List ℕ
-  pub inside : ℕ
-  pub are_contents : AllByRecursion IsContent front
-  pub is_read : IsRead uap
-  pub is_block : IsDataBlock (record { category = category_of uap; body = body })
-  pub whole : octets ≡ datagram_of front ++ spelled (record { category = category_of uap; body = body }) ++ rest
-  pub fault : BodyFault uap body inside cause
-  pub place : offset ≡ length (datagram_of front) + 3 + inside
-
--- the first fault of a datagram, in the order of reading
-pub data DatagramFault (octets : List ℕ) (offset cause : ℕ) : Type 0 where
-  in_head : HeadFault octets offset cause → DatagramFault octets offset cause
-  in_records : RecordsFault octets offset cause → DatagramFault octets offset cause
 
 -- the times of day in a datagram's blocks, in the order of the octets
 abbrev pub times_of_content : Content → List ℕ
