@@ -1,1 +1,2 @@
 pub mod Radars
+pub mod Growing

@@ -1,6 +1,7 @@
 -- What a log keeps beside its events.
 use Rattle.std.specs.Prelude.{◌≡◌, ℕ, ◌<◌, ◌≤◌, ◌^◌, length}
 use Rattle.admission_log.specs.declared.log.Log.TheInside.{Inside}
+use Rattle.admission_log.specs.declared.log.TheConstants.{LIMIT}
 use Rattle.admission_log.specs.Histories.{History, last_of, next_of, published_of, cut_of}
 
 abbrev pub history : Inside → History
@@ -12,3 +13,4 @@ pub record IsLog (log : Inside) : Type 0 where
   pub published : log.published ≡ published_of (history log)
   pub cut : log.cut ≡ cut_of (history log)
   pub in_time : log.last < 2 ^ 40
+  pub few : log.next ≤ LIMIT

@@ -1,11 +1,13 @@
 //! What is admitted: the settings by which plots are judged, and the one log of datagrams, ticks and editions.
 #![tactic(auto)]
 
+mod delivery;
 mod events;
 mod judging;
 mod log;
 mod settings;
 
+pub use delivery::deliver;
 pub use events::{AdmitError, Admitted, Event, Outcome, Receipt, TickError};
 pub use judging::{MOST_AHEAD, judge};
 pub use log::{LIMIT, Log};

@@ -1,12 +1,16 @@
-ghost use Rattle.std.specs.Prelude.{◌≡◌, ◌+◌, ◌<◌, ◌≤◌, ◌^◌, ℕ, [], length, Err, IfOk, OnOk, OnErr};
+ghost use Rattle.std.specs.Prelude.{◌≡◌, ◌+◌, ◌<◌, ◌≤◌, ◌^◌, ℕ, List, [], length, map, Err, IfOk, OnOk, OnErr};
+ghost use Rattle.asterix_frame.specs.declared.block.Malformed.{Malformed};
+ghost use Rattle.asterix_frame.specs.Answers.{IfMalformed, Reads, Refuses};
+ghost use Rattle.asterix_frame.specs.Datagrams.{Content, IsDatagram, DatagramFault};
 ghost use Rattle.admission_log.specs.declared.settings.Settings.{Settings};
-ghost use Rattle.admission_log.specs.Histories.{appended, last_of, published_of, cut_of};
+ghost use Rattle.admission_log.specs.Histories.{appended, last_of, next_of, published_of, cut_of, admitted_in};
+ghost use Rattle.admission_log.specs.Deliveries.{delivery, outcomes_in};
 ghost use Rattle.admission_log.specs.Legality.{IsLegal};
 
-use crate::{Event, TickError};
+use crate::{AdmitError, Event, Outcome, Receipt, Settings, TickError, deliver};
 use std::alloc::Global;
 use std::marker::Model;
-use trk_base::{NoMemory, Sequence};
+use trk_base::{NoMemory, Sequence, TryCopy};
 
 /// What each place in a log, each arrival and each edition's number is below. Where one would reach it, memory is wanting.
 pub const LIMIT: u64 = 1 << 62;
@@ -75,6 +79,47 @@ impl Log {
         events.into_vec()
     }
 
+    /// Admits a datagram that came from a feed, and answers the place of its event and what became of each of its messages.
+    ///
+    /// It is refused as malformed exactly where it isn't in the grammar, by the first fault in the order of reading. After an error the log is as it was.
+    pub fn admit(
+        &mut self,
+        settings: &Settings,
+        feed: u8,
+        datagram: &[u8],
+    ) -> Result<Receipt, AdmitError>
+        requires { length datagram.now ≤ 65535 }
+        ensures place { IfOk result (λ r. r.at ≡ length self.old.events) }
+        ensures delivered { IfOk result (λ r. (contents : List Content) × IsDatagram datagram.now contents
+            × (self.new ≡ appended self.old (delivery settings.now (last_of self.old) (next_of self.old) feed contents))
+            × (r.outcomes ≡ outcomes_in (delivery settings.now (last_of self.old) (next_of self.old) feed contents))) }
+        ensures malformed { IfMalformed result (λ m. DatagramFault datagram.now m.offset m.cause) }
+
+        // The other directions, unless memory is wanting.
+        ensures reads { (contents : List Content) → IsDatagram datagram.now contents → Reads result (λ r.
+            (self.new ≡ appended self.old (delivery settings.now (last_of self.old) (next_of self.old) feed contents))
+            × (r.outcomes ≡ outcomes_in (delivery settings.now (last_of self.old) (next_of self.old) feed contents))) }
+        ensures refuses { (m : Malformed) → DatagramFault datagram.now m.offset m.cause → Refuses result (λ x. x ≡ m) }
+
+        ensures err { OnErr result (self.new ≡ self.old) }
+        ensures legal { IsLegal settings.now self.old → IsLegal settings.now self.new }
+    {
+        let event = deliver(
+            self.alloc,
+            settings,
+            self.last,
+            self.next,
+            feed,
+            datagram,
+        )?;
+        let at = self.place()?;
+        let admitted = admitted_count(&event);
+        let outcomes = outcomes_of(self.alloc, &event)?;
+        self.events.push(event)?;
+        self.next += admitted;
+        Ok(Receipt { at, outcomes })
+    }
+
     /// Takes a tick, a time in 1/128 s, and answers the place of its event.
     ///
     /// It is refused as old exactly where it isn't above the last one, or the start. After an error the log is as it was.
@@ -125,5 +170,25 @@ impl Log {
             return Err(NoMemory);
         }
         Ok(at)
+    }
+}
+
+// How many plots an event admits.
+fn admitted_count(event: &Event) -> u64
+    ensures { result ≡ length (admitted_in event.now) }
+{
+    match event {
+        Event::Deliver { admitted, .. } => admitted.len() as u64,
+        _ => 0,
+    }
+}
+
+// What an event tells of each message.
+fn outcomes_of(alloc: Global, event: &Event) -> Result<Sequence<Outcome>, NoMemory>
+    ensures { IfOk result (λ told. told ≡ outcomes_in event.now) }
+{
+    match event {
+        Event::Deliver { outcomes, .. } => outcomes.copy(alloc),
+        _ => Ok(Sequence::new(alloc)),
     }
 }
