@@ -1,2 +1,6 @@
 pub mod Radars
 pub mod Growing
+pub mod Bringing
+pub mod Contents
+pub mod Reading
+pub mod Sound
