@@ -1,5 +1,5 @@
 -- What a log tells with one more event, and that it stays legal.
-use Rattle.std.proofs.Common.{◌≡◌, ◌∙◌, ap, sym, subst, refl, ℕ, zero, suc, ◌+◌, ◌<◌, ◌≤◌, max, List, [], ◌∷◌, ◌++◌, length, take, Some, ◌⊎◌, inl, inr, arith, length-append}
+use Rattle.std.proofs.Common.{◌≡◌, ◌∙◌, ap, sym, subst, refl, ℕ, zero, suc, ◌+◌, ◌<◌, ◌≤◌, max, List, [], ◌∷◌, ◌++◌, length, take, Some, ◌⊎◌, inl, inr, arith, length-append, append-nil}
 use Rattle.std.specs.Prelude.{slice_get, fold}
 use Rattle.std.specs.List.{filter_map, flat_map}
 use Rattle.std.proofs.lemmas.List.{take-append-le}
@@ -53,3 +53,7 @@ published-appended h e = ap length (publications-appended h e) ∙ length-append
 
 pub cut-appended : (h : History) (e : Event) → cut_of (appended h e) ≡ fold (λ cut p. max cut p.1) (cut_of h) (filter_map published_in (e ∷ []))
 cut-appended h e = ap (fold (λ cut p. max cut p.1) 0) (publications-appended h e) ∙ fold-append (λ cut p. max cut p.1) 0 (publications_of h) (filter_map published_in (e ∷ []))
+
+-- the next arrival is behind those of the event
+pub next-grown : (h : History) (e : Event) → next_of (appended h e) ≡ next_of h + length (admitted_in e)
+next-grown h e = next-appended h e ∙ ap (λ t. next_of h + length t) (append-nil (admitted_in e))
