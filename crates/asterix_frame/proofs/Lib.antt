@@ -9,3 +9,9 @@ pub mod ItemCodes
 pub mod RecordCodes
 pub mod Totals
 pub mod Sequences
+pub mod DataItems
+pub mod Placed
+pub mod DataRecordCodes
+pub mod Bodies
+pub mod Refusals
+pub mod Datagrams

@@ -79,15 +79,21 @@ module _ (X : Type 0) (octets_of : X → List ℕ) (Is : X → Type 0) (None : L
     more x o rest h e r =
         elim r.reading [
           | inl (xs, w) ↦ record { reading = inl (x ∷ xs, record { all = (h, w.all); whole = e ∙ ap (λ t. octets_of x ++ t) w.whole }) }
-          | inr (place, cause, f) ↦ record { reading = inr (length (octets_of x) + place, cause, record {
-              front = x ∷ f.front;
-              rest = f.rest;
-              inside = f.inside;
-              all = (h, f.all);
-              whole = e ∙ ap (λ t. octets_of x ++ t) f.whole ∙ sym (append_assoc (octets_of x) (flat_map octets_of f.front) f.rest);
-              none = f.none;
-              place_is = omega (arith, f.place_is, length-append (octets_of x) (flat_map octets_of f.front));
-            }) }
+          | inr (place, cause, f) ↦ record {
+            reading = inr (
+              length (octets_of x) + place,
+              cause,
+              record {
+                front = x ∷ f.front;
+                rest = f.rest;
+                inside = f.inside;
+                all = (h, f.all);
+                whole = e ∙ ap (λ t. octets_of x ++ t) f.whole ∙ sym (append_assoc (octets_of x) (flat_map octets_of f.front) f.rest);
+                none = f.none;
+                place_is = omega (arith, f.place_is, length-append (octets_of x) (flat_map octets_of f.front));
+              },
+            );
+          }
         ]
 
     pub some_reading : (Good : List ℕ → Type 0) → ((o : List ℕ) → Good o → 0 < length o → Step Good o) → (n : ℕ) (o : List ℕ) → length o ≤ n → Good o → Reading o

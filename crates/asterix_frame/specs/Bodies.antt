@@ -1,13 +1,15 @@
 -- The body of a block as a list of records, and where they lie in it.
-use Rattle.std.specs.Prelude.{◌≡◌, ℕ, ◌+◌, ◌-◌, ◌<◌, ◌≤◌, List, [], ◌∷◌, ◌++◌, length, map, take, drop, All}
+use Rattle.std.specs.Prelude.{◌≡◌, ℕ, ◌+◌, ◌-◌, ◌<◌, ◌≤◌, ◌==◌, if◌then◌else◌, List, [], ◌∷◌, ◌++◌, length, map, take, drop, All, Option, Some, None, IsSomeAnd}
+use Rattle.trk_base.specs.Numbers.{day}
 use Rattle.std.specs.List.{flat_map, filter_map, AllByRecursion}
 use Rattle.asterix_frame.specs.declared.block.Malformed.{Malformed}
 use Rattle.asterix_frame.specs.declared.block.Block.{Block}
 use Rattle.asterix_frame.specs.declared.tables.Uap.{Uap}
 use Rattle.asterix_frame.specs.declared.walk.ItemSpans.{ItemSpans}
+use Rattle.asterix_frame.specs.Tables.{time_frn}
 use Rattle.asterix_frame.specs.Parts.{Part}
 use Rattle.asterix_frame.specs.Records.{spans, LiesIn}
-use Rattle.asterix_frame.specs.DataRecords.{DataRecord, IsDataRecord, record_octets, BeginsNoDataRecord, time_of}
+use Rattle.asterix_frame.specs.DataRecords.{DataRecord, IsDataRecord, record_octets, BeginsNoDataRecord, time_in, time_of}
 
 -- ---- the grammar
 
@@ -55,12 +57,23 @@ times_of uap rs = filter_map (λ r. time_of uap r.items) rs
 abbrev pub IsSpan : List ℕ → ℕ × ℕ × ℕ → Type 0
 IsSpan body span = (1 ≤ span.0) × LiesIn body span
 
+-- the first octet and the end of the item with that FRN, if there is one
+abbrev pub span_of : ℕ → List (ℕ × ℕ × ℕ) → Option (ℕ × ℕ)
+span_of frn [] = None
+span_of frn (span ∷ more) = if span.0 == frn then Some (span.1, span.2) else span_of frn more
+
 -- what lies there
 abbrev pub part_at : List ℕ → ℕ × ℕ × ℕ → Part
 part_at body span = record { number = span.0 - 1; octets = take (span.2 - span.1) (drop span.1 body) }
 
 abbrev pub parts_at : List ℕ → List (ℕ × ℕ × ℕ) → List Part
 parts_at body found = map (part_at body) found
+
+-- the item of the time of day begins there, and isn't below a day
+pub record IsLate (uap : Uap) (body : List ℕ) (found : List (ℕ × ℕ × ℕ)) (first : ℕ) : Type 0 where
+  pub end : ℕ
+  pub at : span_of (time_frn uap) found ≡ Some (first, end)
+  pub late : IsSomeAnd (time_in (take (end - first) (drop first body))) (λ time. day ≤ time)
 
 -- the body has this record from that place on, with items at these places, and its end
 pub record HasDataRecord (uap : Uap) (body : List ℕ) (from : ℕ) (r : DataRecord) (found : ItemSpans) : Type 0 where

@@ -1,10 +1,11 @@
 // The records of a block, with their times of day judged.
-ghost use Rattle.std.specs.Prelude.{◌≡◌, ◌<◌, ◌≤◌, ◌++◌, ◌⊎◌, ℕ, List, length, drop, All, IfOk};
+ghost use Rattle.std.specs.Prelude.{◌≡◌, ◌<◌, ◌≤◌, ◌++◌, ◌⊎◌, ℕ, List, length, drop, All, IfOk, IfSome, IfNone};
 ghost use Rattle.asterix_frame.specs.declared.block.Malformed.{Malformed};
 ghost use Rattle.asterix_frame.specs.declared.tables.Uap.{Uap};
 ghost use Rattle.asterix_frame.specs.Answers.{Reads, Refuses, IfMalformed};
-ghost use Rattle.asterix_frame.specs.DataRecords.{DataRecord, IsDataRecord, record_octets};
-ghost use Rattle.asterix_frame.specs.Bodies.{IsBody, BodyFault, IsFaultFrom, IsFaultOfBody, HasDataRecord, HaveDataRecords, HasRecords, AreSpans};
+ghost use Rattle.trk_base.specs.Numbers.{day};
+ghost use Rattle.asterix_frame.specs.DataRecords.{DataRecord, IsDataRecord, record_octets, time_in, time_of};
+ghost use Rattle.asterix_frame.specs.Bodies.{IsBody, BodyFault, IsFaultFrom, IsFaultOfBody, HasDataRecord, HaveDataRecords, HasRecords, AreSpans, IsSpan, IsLate, span_of, parts_at};
 
 use crate::cause::TIME_RANGE;
 use crate::tables::Uap;
@@ -39,8 +40,10 @@ pub fn first_record(
             cause: TIME_RANGE,
         }));
     }
-    let next = end?;
-    Ok(ItemSpans { frns, next })
+    match end {
+        Ok(next) => Ok(ItemSpans { frns, next }),
+        Err(malformed) => Err(BlocksError::Malformed(malformed)),
+    }
 }
 
 /// The records of a block, in order. A block without octets in its body has none.
@@ -66,19 +69,36 @@ pub fn records(alloc: Global, uap: Uap, block: &Block<'_>) -> Result<Vec<ItemSpa
 }
 
 // The place of the time of day, where it isn't below a day.
-fn late_time(uap: Uap, body: &[u8], frns: &[(u8, usize, usize)]) -> Option<usize> {
-    let frn = uap.time_of_day();
-    let (_, first, end) = frns.iter().find(|span| span.0 == frn)?;
-    let time = time_in(&body[*first..*end])?;
+fn late_time(uap: Uap, body: &[u8], frns: &[(u8, usize, usize)]) -> Option<usize>
+    requires { All (IsSpan body.now) frns.now }
+    ensures late { IfSome result (λ first. IsLate uap body.now frns.now first) }
+    ensures early { IfNone result (IfSome (time_of uap (parts_at body.now frns.now)) (λ time. time < day)) }
+{
+    let (first, end) = span_of(frns, uap.time_of_day())?;
+    let time = time_in(&body[first..end])?;
     if u64::from(time) < DAY {
         None
     } else {
-        Some(*first)
+        Some(first)
     }
 }
 
+// The first octet and the end of the item with that FRN.
+fn span_of(frns: &[(u8, usize, usize)], frn: u8) -> Option<(usize, usize)>
+    ensures { result ≡ span_of frn frns.now }
+{
+    for (known, first, end) in frns {
+        if *known == frn {
+            return Some((*first, *end));
+        }
+    }
+    None
+}
+
 // The time of day in three octets.
-fn time_in(octets: &[u8]) -> Option<u32> {
+fn time_in(octets: &[u8]) -> Option<u32>
+    ensures { result ≡ time_in octets.now }
+{
     match octets {
         [high, middle, low] => Some(u32::from_be_bytes([0, *high, *middle, *low])),
         _ => None,
@@ -96,8 +116,8 @@ impl ItemSpans {
         requires { AreSpans body.now self.now }
         ensures { option_map (λ octets. octets.now) result ≡ item frn (parts_at body.now self.now.frns.items) }
     {
-        let (_, first, end) = self.frns.iter().find(|span| span.0 == frn)?;
-        Some(&body[*first..*end])
+        let (first, end) = span_of(&self.frns, frn)?;
+        Some(&body[first..end])
     }
 
     /// The record's time of day in 1/128 s, if it has one. `body` is that of the record's block.

@@ -1,6 +1,6 @@
 use crate::{
     Block, BlockWriter, BlocksError, ItemSpans, Malformed, Uap, WalkError, blocks, cause,
-    first_block, walk_items, walk_record,
+    first_block, records, walk_items, walk_record,
 };
 use std::alloc::Global;
 use std::process::Abort;
@@ -162,6 +162,68 @@ fn walks_the_items_before_a_fault(rt: HostRuntime) -> Result<(), Fail> {
         })
     );
     Ok(())
+}
+
+// A block of target reports, and the first fault of its body.
+const BODY_FAULTS: [(&[u8], usize, u8); 4] = [
+    (
+        &[0x30, 0x00, 0x07, 0x40, 0xA8, 0xC0, 0x00],
+        4,
+        cause::TIME_RANGE,
+    ),
+    // the time of day is whole, and so judged, before the next item is cut short
+    (
+        &[0x30, 0x00, 0x07, 0x60, 0xA8, 0xC0, 0x00],
+        4,
+        cause::TIME_RANGE,
+    ),
+    // a record, and one with a fault
+    (
+        &[
+            0x30, 0x00, 0x0B, 0x40, 0xA8, 0xBF, 0xFF, 0x40, 0xA8, 0xC0, 0x00,
+        ],
+        8,
+        cause::TIME_RANGE,
+    ),
+    (
+        &[0x30, 0x00, 0x09, 0x40, 0xA8, 0xBF, 0xFF, 0x80, 0x01],
+        8,
+        cause::ITEM_END,
+    ),
+];
+
+#[test]
+fn tells_the_first_fault_of_a_body(rt: HostRuntime) {
+    for (datagram, offset, cause) in BODY_FAULTS {
+        let block = first_block(datagram, 0).expect(&rt, "a block");
+        let fault = Malformed { offset, cause };
+        let got = records(rt.alloc(), Uap::Cat048, &block).err();
+        assert_eq!(rt; got, Some(BlocksError::Malformed(fault)));
+    }
+}
+
+#[test]
+fn reads_the_records_of_a_body(rt: HostRuntime) {
+    let block = Block {
+        cat: 48,
+        at: 3,
+        body: &[
+            0x40, 0xA8, 0xBF, 0xFF, 0x00, 0xC0, 0x01, 0x02, 0x00, 0x00, 0x00,
+        ],
+    };
+    let found = records(rt.alloc(), Uap::Cat048, &block).expect(&rt, "three records");
+    assert_eq!(rt; found.len(), 3);
+    assert_eq!(rt;
+        found[0].time_of_day(Uap::Cat048, block.body),
+        Some(11_059_199)
+    );
+    assert_eq!(rt; found[1].time_of_day(Uap::Cat048, block.body), None);
+    assert_eq!(rt;
+        found[2].frns.as_slice(),
+        [(1, 6, 8), (2, 8, 11)].as_slice()
+    );
+    assert_eq!(rt; found[2].item(block.body, 1), Some([0x01, 0x02].as_slice()));
+    assert_eq!(rt; found[2].next, 11);
 }
 
 // A record of all items of a category, and their ends.

@@ -1,0 +1,37 @@
+use Rattle.std.proofs.Common.{◌≡◌, ◌∙◌, sym, ap, subst, ◌<◌, ℕ, length, arith, Some, None}
+use Rattle.std.specs.Prelude.{IfSome}
+use Rattle.std.proofs.lemmas.List.Elements.{recursion_from_All}
+use Rattle.trk_base.specs.Numbers.{day}
+use Rattle.asterix_frame.specs.Bodies.{IsSpan, span_of}
+use Rattle.asterix_frame.proofs.Placed.{span_within}
+use Rattle.asterix_frame.proofs.Bodies.{no_time, time_at}
+use Rattle.asterix_frame.proofs.body.late_time.Goals as goal
+
+pub returns-in_err-first-clause-early : goal.returns-in_err-first-clause-early
+returns-in_err-first-clause-early c =
+    let spans = recursion_from_All (IsSpan c.args.body.now) c.args.frns.now c.requires in
+    let none = no_time c.args.uap c.args.body.now c.args.frns.now spans (ap (λ frn. span_of frn c.args.frns.now) (sym c.time_of_day.ensures) ∙ sym (c.in_err-first.ensures)) in
+    rw (c.from_residual.ensures, none) tt
+
+pub slice_bounds-time_in-count : goal.slice_bounds-time_in-count
+slice_bounds-time_in-count c = (span_within c.args.body.now c.time_of_day.result c.args.frns.now c.in_ok-first.first c.in_ok-first.end (recursion_from_All (IsSpan c.args.body.now) c.args.frns.now c.requires) (sym (c.in_ok-first.ensures))).0
+
+pub slice_bounds-time_in-start : goal.slice_bounds-time_in-start
+slice_bounds-time_in-start c = (span_within c.args.body.now c.time_of_day.result c.args.frns.now c.in_ok-first.first c.in_ok-first.end (recursion_from_All (IsSpan c.args.body.now) c.args.frns.now c.requires) (sym (c.in_ok-first.ensures))).0
+
+pub slice_bounds-time_in-end : goal.slice_bounds-time_in-end
+slice_bounds-time_in-end c = (span_within c.args.body.now c.time_of_day.result c.args.frns.now c.in_ok-first.first c.in_ok-first.end (recursion_from_All (IsSpan c.args.body.now) c.args.frns.now c.requires) (sym (c.in_ok-first.ensures))).1
+
+pub returns-in_err-time-clause-early : goal.returns-in_err-time-clause-early
+returns-in_err-time-clause-early c =
+    let spans = recursion_from_All (IsSpan c.args.body.now) c.args.frns.now c.requires in
+    let time = time_at c.args.uap c.args.body.now c.args.frns.now spans c.in_ok-first.first c.in_ok-first.end (ap (λ frn. span_of frn c.args.frns.now) (sym c.time_of_day.ensures) ∙ sym c.in_ok-first.ensures) in
+    let none = time ∙ sym c.in_err-time.ensures in
+    rw (c.from_residual-in_err-time.ensures, none) tt
+
+pub returns-then-from-lt-DAY-clause-early : goal.returns-then-from-lt-DAY-clause-early
+returns-then-from-lt-DAY-clause-early c =
+    let spans = recursion_from_All (IsSpan c.args.body.now) c.args.frns.now c.requires in
+    let time = time_at c.args.uap c.args.body.now c.args.frns.now spans c.in_ok-first.first c.in_ok-first.end (ap (λ frn. span_of frn c.args.frns.now) (sym c.time_of_day.ensures) ∙ sym c.in_ok-first.ensures) in
+    let below : c.in_ok-time.time < day = omega (arith, c.from.ensures, c.if-from-lt-DAY.true) in
+    subst (λ o. IfSome o (λ t. t < day)) (c.in_ok-time.ensures ∙ sym time) below
