@@ -1,1 +1,3 @@
 pub mod PlotFields
+pub mod ReportFields
+pub mod Told

@@ -1,5 +1,5 @@
 -- A plot is told by its fields, since each of its ranges has one proof.
-use Rattle.std.proofs.Common.{◌≡◌, ap, sym, subst, refl, ℕ, zero, suc, ◌≤◌, Option, Some, None, Ok, ℤ, Bool, false, arith}
+use Rattle.std.proofs.Common.{◌≡◌, ap, sym, subst, ℕ, zero, suc, ◌≤◌, Option, Some, None, Ok, ℤ, Bool, false, arith}
 use Rattle.std.proofs.Props.{props}
 use Rattle.std.specs.Option.{ForSome}
 use Rattle.trk_base.specs.Ranges.{IsTimeOfDay, IsKind, IsCode, IsLevel, IsAddress}

@@ -1,2 +1,4 @@
 pub mod Values
+pub mod InRange
+pub mod Reports
 pub mod Plots

@@ -1,5 +1,5 @@
 -- The plot that a report tells.
-use Rattle.std.specs.Prelude.{ℕ, zero, suc, ◌≤◌, Bool, if◌then◌else◌, Option, Some, None, Result, Ok, Err}
+use Rattle.std.specs.Prelude.{ℕ, zero, suc, ◌≤◌, if◌then◌else◌, Option, Some, None, Result, Ok, Err}
 use Rattle.std.specs.Option.{ForSome}
 use Rattle.std.proofs.Common.{refl, arith}
 use Rattle.trk_base.specs.Ranges.{IsTimeOfDay, IsKind}

@@ -1,6 +1,7 @@
 -- What the octets of an item of a target report say (ASTERIX, Part 4, category 048). An item that isn't of its length says nothing.
 use Rattle.std.specs.Prelude.{ℕ, ◌+◌, ◌-◌, ◌*◌, ◌/◌, ◌%◌, ◌^◌, Bool, false, ◌==◌, nat_lt, ◌||◌, if◌then◌else◌, List, [], ◌∷◌, Option, Some, None, ℤ, pos, ◌-ℤ◌}
 use Rattle.std.specs.Int.{bit_at}
+use Rattle.trk_base.specs.Numbers.{day}
 
 -- numbers of several octets, the highest first
 abbrev pub two_octets : ℕ → ℕ → ℕ
@@ -21,6 +22,11 @@ signed bits number = if nat_lt number (2 ^ (bits - 1)) then pos number else pos 
 abbrev pub source_of : List ℕ → Option (ℕ × ℕ)
 source_of (sac ∷ sic ∷ []) = Some (sac, sic)
 source_of _ = None
+
+-- I048/140: a time of day, in 1/128 s, is below a day
+abbrev pub below_day : Option ℕ → Option ℕ
+below_day None = None
+below_day (Some time) = if nat_lt time day then Some time else None
 
 -- I048/020, its first octet: TYP is bits 8 to 6
 abbrev pub kind_of : List ℕ → Option ℕ

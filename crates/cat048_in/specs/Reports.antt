@@ -1,0 +1,38 @@
+-- The reports that records tell, by their items.
+use Rattle.std.specs.Prelude.{ℕ, List, [], map}
+use Rattle.std.specs.Option.{unwrap_or}
+use Rattle.asterix_frame.specs.declared.tables.Uap.TheVariants.{Cat048}
+use Rattle.asterix_frame.specs.Parts.{Part}
+use Rattle.asterix_frame.specs.DataRecords.{DataRecord, item, time_of}
+use Rattle.cat048_in.specs.declared.report.Report.{Report}
+use Rattle.cat048_in.specs.Values.{source_of, below_day, kind_of, simulated_of, spi_of, monitor_of, test_of, polar_of, code_of, level_of, address_of}
+use Rattle.cat048_in.specs.InRange.{kind_in_range, time_in_range, code_in_range, level_in_range, address_in_range}
+
+-- The octets of the item with that FRN. An item that isn't there has none, and they say nothing.
+abbrev pub octets : ℕ → List Part → List ℕ
+octets frn items = unwrap_or (item frn items) []
+
+-- FRN 1 is I048/010, 2 is 140, 3 is 020, 4 is 040, 5 is 070, 6 is 090, and 8 is 220. All other items are passed over.
+unfoldable pub report_of : List Part → Report
+report_of items = record {
+  source = source_of (octets 1 items);
+  tod = below_day (time_of Cat048 items);
+  kind = kind_of (octets 3 items);
+  simulated = simulated_of (octets 3 items);
+  test = test_of (octets 3 items);
+  spi = spi_of (octets 3 items);
+  monitor = monitor_of (octets 3 items);
+  polar = polar_of (octets 4 items);
+  code = code_of (octets 5 items);
+  level = level_of (octets 6 items);
+  address = address_of (octets 8 items);
+  kind_range = kind_in_range (octets 3 items);
+  in_day = time_in_range (time_of Cat048 items);
+  code_range = code_in_range (octets 5 items);
+  level_range = level_in_range (octets 6 items);
+  address_range = address_in_range (octets 8 items);
+}
+
+-- the reports of these records, in order
+abbrev pub reports_of : List DataRecord → List Report
+reports_of records = map (λ r. report_of r.items) records

@@ -1,0 +1,81 @@
+// The reports of a block.
+ghost use Rattle.std.specs.Prelude.{◌≡◌, List, IfOk};
+ghost use Rattle.asterix_frame.specs.declared.block.Malformed.{Malformed};
+ghost use Rattle.asterix_frame.specs.declared.tables.Uap.TheVariants.{Cat048};
+ghost use Rattle.asterix_frame.specs.Answers.{Reads, Refuses, IfMalformed};
+ghost use Rattle.asterix_frame.specs.DataRecords.{DataRecord};
+ghost use Rattle.asterix_frame.specs.Bodies.{IsBody, IsFaultOfBody, AreSpans, parts_at};
+ghost use Rattle.cat048_in.specs.Reports.{octets, report_of, reports_of};
+
+use crate::Report;
+use crate::values::{
+    address_of, below_day, code_of, kind_of, level_of, monitor_of, polar_of, simulated_of,
+    source_of, spi_of, test_of,
+};
+use asterix_frame::{Block, BlocksError, ItemSpans, Uap, records};
+use std::alloc::Global;
+
+/// I048/010, data source identifier.
+const SOURCE: u8 = 1;
+/// I048/020, target report descriptor.
+const DESCRIPTOR: u8 = 3;
+/// I048/040, measured position in polar co-ordinates.
+const POSITION: u8 = 4;
+/// I048/070, Mode 3/A code.
+const CODE: u8 = 5;
+/// I048/090, flight level.
+const LEVEL: u8 = 6;
+/// I048/220, aircraft address.
+const ADDRESS: u8 = 8;
+
+/// Why a block wasn't read: it has a fault with one of the causes `FSPEC_END` to `TIME_RANGE` of `asterix_frame::cause`, or memory is wanting.
+pub type ReadError = BlocksError;
+
+/// The target reports of a block of category 48, in order.
+///
+/// It is refused exactly where the block's body isn't a list of whole records whose times of day are below a day, by the first fault from the left; then none of its reports is told.
+pub fn read048(alloc: Global, block: &Block<'_>) -> Result<Vec<Report>, ReadError>
+    requires { block.now.cat ≡ 48 }
+    ensures read { IfOk result (λ v. (rs : List DataRecord) × IsBody Cat048 block.now.body.now rs × (v.items ≡ reports_of rs)) }
+    ensures malformed { IfMalformed result (λ m. IsFaultOfBody Cat048 block.now m) }
+
+    // The other directions, unless memory is wanting.
+    ensures reads { (rs : List DataRecord) → IsBody Cat048 block.now.body.now rs → Reads result (λ v. v.items ≡ reports_of rs) }
+    ensures refuses { (m : Malformed) → IsFaultOfBody Cat048 block.now m → Refuses result (λ x. x ≡ m) }
+{
+    let records = records(alloc, Uap::Cat048, block)?;
+    let mut reports = Vec::new(alloc);
+    for record in &records {
+        reports.push(report_of(block.body, record))?;
+    }
+    Ok(reports)
+}
+
+// The report of a record. `body` is that of its block.
+fn report_of(body: &[u8], items: &ItemSpans) -> Report
+    requires { AreSpans body.now items.now }
+    ensures { result ≡ report_of (parts_at body.now items.now.frns.items) }
+{
+    let descriptor = octets(body, items, DESCRIPTOR);
+    Report {
+        source: source_of(octets(body, items, SOURCE)),
+        tod: below_day(items.time_of_day(Uap::Cat048, body)),
+        kind: kind_of(descriptor),
+        simulated: simulated_of(descriptor),
+        test: test_of(descriptor),
+        spi: spi_of(descriptor),
+        monitor: monitor_of(descriptor),
+        polar: polar_of(octets(body, items, POSITION)),
+        code: code_of(octets(body, items, CODE)),
+        level: level_of(octets(body, items, LEVEL)),
+        address: address_of(octets(body, items, ADDRESS)),
+    }
+}
+
+// The octets of the item with that FRN, or none where the record doesn't have it.
+fn octets<'a>(body: &'a [u8], items: &ItemSpans, frn: u8) -> &'a [u8]
+    requires { AreSpans body.now items.now }
+    ensures { result.now ≡ octets frn (parts_at body.now items.now.frns.items) }
+{
+    items.item(body, frn).unwrap_or(&[])
+}
