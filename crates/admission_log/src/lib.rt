@@ -3,4 +3,4 @@
 
 mod settings;
 
-pub use settings::{MAX_RADARS, Settings};
+pub use settings::{MAX_RADARS, Settings, radar_of};
