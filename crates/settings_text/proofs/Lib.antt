@@ -1,2 +1,3 @@
-pub mod Reading
 pub mod Names
+pub mod Ranges
+pub mod Reading

@@ -1,5 +1,5 @@
 -- What a table says of its keys, each by the rule of the key.
-use Rattle.std.specs.Prelude.{◌≡◌, ℕ, Bool, ◌&&◌, if◌then◌else◌, ℤ, int_le, List, [], ◌∷◌, Option, Some, None, option_map, Result, Ok, Err}
+use Rattle.std.specs.Prelude.{◌≡◌, ℕ, Bool, true, ◌&&◌, if◌then◌else◌, ℤ, ◌≤ℤ◌, int_le, List, [], ◌∷◌, Option, Some, None, option_map, Result, Ok, Err}
 use Rattle.std.specs.List.{AllZip, filter_map, list_all, list_any}
 use Rattle.std.specs.Option.{ok_or}
 use Rattle.std.specs.Result.{result_err}
@@ -19,9 +19,17 @@ Flaw = KeyPath → SettingsFault
 abbrev pub path : Option ℕ → ℕ → KeyPath
 path radar key = record { radar = radar; key = key }
 
--- the number is in the range of the key
+-- the number is neither below the first nor above the second
+abbrev pub IsBetween : ℤ → ℤ → ℤ → Type 0
+IsBetween least most number = (least ≤ℤ number) × (number ≤ℤ most)
+
+-- whether the number is in the range of the key
 abbrev pub is_within : KeyRule → ℤ → Bool
 is_within rule number = int_le rule.least number && int_le number rule.most
+
+-- each number is in the range of its key
+abbrev pub AreWithin : List KeyRule → List ℤ → Type 0
+AreWithin = AllZip (λ rule number. is_within rule number ≡ true)
 
 -- The number of a key, by what stands there: nothing, something that is no integer, or an integer.
 abbrev pub number_of : KeyRule → Option (Option ℤ) → Result ℤ Flaw

@@ -5,7 +5,8 @@
 mod faults;
 mod keys;
 // mod laws;
-// mod radars;
+mod narrow;
+mod radars;
 mod system;
 mod tables;
 // #[cfg(test)]
