@@ -7,7 +7,7 @@ abbrev pub HasSource : ℕ → ℕ → RadarSettings → Type 0
 HasSource sac sic radar = (radar.sac ≡ sac) × (radar.sic ≡ sic)
 
 -- the place of the radar that has them
-abbrev pub radar_of : List RadarSettings → ℕ → ℕ → Option ℕ
+unfoldable pub radar_of : List RadarSettings → ℕ → ℕ → Option ℕ
 radar_of radars sac sic = position (λ radar. radar.sac == sac && radar.sic == sic) radars
 
 -- no two radars have the same SAC and SIC

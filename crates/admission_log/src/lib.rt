@@ -11,4 +11,4 @@ pub use delivery::deliver;
 pub use events::{AdmitError, Admitted, Event, Outcome, Receipt, TickError};
 pub use judging::{MOST_AHEAD, judge};
 pub use log::{LIMIT, Log};
-pub use settings::{MAX_RADARS, Settings};
+pub use settings::{MAX_RADARS, Settings, radar_of};

@@ -1,5 +1,5 @@
-ghost use Rattle.std.specs.Prelude.{◌≡◌, ◌≤◌, length};
-ghost use Rattle.admission_log.specs.Sources.{HaveOwnSources};
+ghost use Rattle.std.specs.Prelude.{◌≡◌, ◌<◌, ◌≤◌, length, IfSome};
+ghost use Rattle.admission_log.specs.Sources.{HaveOwnSources, radar_of};
 
 #[cfg(test)]
 mod tests;
@@ -46,8 +46,8 @@ impl TryCopy for Settings {
 }
 
 impl Settings {
-    ghost use Rattle.std.specs.Prelude.{IfSome, IfNone, IsSomeAnd, All, slice_get};
-    ghost use Rattle.admission_log.specs.Sources.{radar_of, HasSource};
+    ghost use Rattle.std.specs.Prelude.{IfNone, IsSomeAnd, All, slice_get};
+    ghost use Rattle.admission_log.specs.Sources.{HasSource};
 
     /// The index of the radar with a SAC and a SIC, or None where no radar has them. It takes no memory.
     pub fn radar(&self, sac: u8, sic: u8) -> Option<u8>
@@ -55,13 +55,19 @@ impl Settings {
         ensures found { IfSome result (λ n. IsSomeAnd (slice_get self.now.radars n) (HasSource sac sic)) }
         ensures none { IfNone result (All (λ radar. ¬ HasSource sac sic radar) self.now.radars) }
     {
-        let radars = self.radars.as_slice();
-        match radars
-            .iter()
-            .position(|radar| radar.sac == sac && radar.sic == sic)
-        {
+        match radar_of(self.radars.as_slice(), sac, sic) {
             Some(place) => Some(place as u8),
             None => None,
         }
     }
+}
+
+/// The place of the first radar with a SAC and a SIC, or None where no radar has them. It takes no memory.
+pub fn radar_of(radars: &[RadarSettings], sac: u8, sic: u8) -> Option<usize>
+    ensures place { result ≡ radar_of radars.now sac sic }
+    ensures within { IfSome result (λ n. n < length radars.now) }
+{
+    radars
+        .iter()
+        .position(|radar| radar.sac == sac && radar.sic == sic)
 }
