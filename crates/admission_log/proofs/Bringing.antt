@@ -25,7 +25,7 @@ judged_all-append settings last next (m ∷ ms) ns =
     let j = judged_message settings last next m in
     let js = judged_all settings last (next_after next j) ms in
     let counted : next_after next j + length (filter_map admitted_by js) ≡ next + length (filter_map admitted_by (j ∷ js)) =
-        omega (arith, next_counts next j, ap length (filter_map-append admitted_by (j ∷ []) js), length-append (filter_map admitted_by (j ∷ [])) (filter_map admitted_by js)) in
+    omega (arith, next_counts next j, ap length (filter_map-append admitted_by (j ∷ []) js), length-append (filter_map admitted_by (j ∷ [])) (filter_map admitted_by js)) in
     ap (λ t. j ∷ t) (judged_all-append settings last (next_after next j) ms ns ∙ ap (λ n. js ++ judged_all settings last n ns) counted)
 
 -- nothing was judged

@@ -74,7 +74,7 @@ holds_more settings last next datagram from old new contents block c h begins is
     let grown = datagram-more contents c (data_block block) same in
     let octets : drop from datagram ≡ spelled (data_block block) ++ rest = begins.octets ∙ ap (λ k. spelled (data_block block) ++ drop k datagram) (sym end_is) in
     let judged : js ++ ks ≡ judged_all settings last next (messages_of (contents ++ c ∷ [])) =
-        sym (judged_all-append settings last next (messages_of contents) (messages_in c)) ∙ ap (judged_all settings last next) (sym (messages-more contents c)) in
+    sym (judged_all-append settings last next (messages_of contents) (messages_in c)) ∙ ap (judged_all settings last next) (sym (messages-more contents c)) in
     let then : Brings ks old new = subst (λ n. Brings (judged_all settings last n (messages_in c)) old new) h.brings.next brings.0 in
     record {
       are_contents = all_more contents c h.are_contents is;

@@ -36,10 +36,10 @@ by_order P x y a b f g =
 timed_sound : (settings : Settings) (last : ℕ) (a : Admitted) → radar_of settings.radars a.plot.sac a.plot.sic ≡ Some a.radar → a.time ≡ time_at settings last a.radar a.plot.tod → IsSound settings last a.arrival (timed settings last a)
 timed_sound settings last a known time =
     by_order (IsSound settings last a.arrival) (slot_of a.time) (low_at settings.window last) _ _
-        (λ late. (refl, late))
-        (λ not_late. by_order (IsSound settings last a.arrival) (high_at last) a.time _ _
-            (λ ahead. (refl, ahead))
-            (λ not_ahead. (refl, record { radar = known; time = time; not_late = not_late; not_ahead = not_ahead })))
+    (λ late. (refl, late))
+    (λ not_late. by_order (IsSound settings last a.arrival) (high_at last) a.time _ _
+    (λ ahead. (refl, ahead))
+    (λ not_ahead. (refl, record { radar = known; time = time; not_late = not_late; not_ahead = not_ahead })))
 
 placed_sound : (settings : Settings) (last next : ℕ) (plot : RawPlot) (o : Option ℕ) → radar_of settings.radars plot.sac plot.sic ≡ o → IsSound settings last next (placed settings last next plot o)
 placed_sound settings last next plot None known = (refl, tt)

@@ -6,6 +6,8 @@ mod events;
 mod judging;
 mod log;
 mod settings;
+#[cfg(test)]
+mod tests;
 
 pub use delivery::deliver;
 pub use events::{AdmitError, Admitted, Event, Outcome, Receipt, TickError};

@@ -104,14 +104,7 @@ impl Log {
         ensures err { OnErr result (self.new ≡ self.old) }
         ensures legal { IsLegal settings.now self.old → IsLegal settings.now self.new }
     {
-        let event = deliver(
-            self.alloc,
-            settings,
-            self.last,
-            self.next,
-            feed,
-            datagram,
-        )?;
+        let event = deliver(self.alloc, settings, self.last, self.next, feed, datagram)?;
         let at = self.place()?;
         let admitted = admitted_count(&event);
         let outcomes = outcomes_of(self.alloc, &event)?;

@@ -30,21 +30,21 @@ returns-in_err-add_block-clause-malformed c =
     let inv = c.loop-from.invariant in
     let p = err_from_is_err_and c.from_residual-in_err-add_block.result c.from_residual-in_err-add_block.ensures.1 in
     rw (p.1, p.2) (passes_malformed (Unit {0}) Event (IsFaultOfBlock c.in_ok-block.block) c.in_err-add_block.field-0.0 (λ m. DatagramFault c.args.datagram.now m.offset m.cause) c.in_err-add_block.ensures.malformed
-        (λ m h. records_fault c.args.settings.now c.args.last c.args.next c.args.datagram.now c.loop-from.from c.loop-from.delivery inv.0 c.in_ok-block.block m inv.1 c.in_ok-block.ensures.found h))
+    (λ m h. records_fault c.args.settings.now c.args.last c.args.next c.args.datagram.now c.loop-from.from c.loop-from.delivery inv.0 c.in_ok-block.block m inv.1 c.in_ok-block.ensures.found h))
 
 pub returns-in_err-add_block-clause-reads : goal.returns-in_err-add_block-clause-reads
 returns-in_err-add_block-clause-reads c = λ contents is.
     let inv = c.loop-from.invariant in
     let p = err_from_is_err_and c.from_residual-in_err-add_block.result c.from_residual-in_err-add_block.ensures.1 in
     rw (p.1, p.2) (passes_reads (Unit {0}) Event (IsFaultOfBlock c.in_ok-block.block) c.in_err-add_block.field-0.0 (λ e. e ≡ delivery c.args.settings.now c.args.last c.args.next c.args.feed contents) c.in_err-add_block.ensures.malformed
-        (λ m h. not_both c.args.datagram.now contents _ _ is (records_fault c.args.settings.now c.args.last c.args.next c.args.datagram.now c.loop-from.from c.loop-from.delivery inv.0 c.in_ok-block.block m inv.1 c.in_ok-block.ensures.found h)))
+    (λ m h. not_both c.args.datagram.now contents _ _ is (records_fault c.args.settings.now c.args.last c.args.next c.args.datagram.now c.loop-from.from c.loop-from.delivery inv.0 c.in_ok-block.block m inv.1 c.in_ok-block.ensures.found h)))
 
 pub returns-in_err-add_block-clause-refuses : goal.returns-in_err-add_block-clause-refuses
 returns-in_err-add_block-clause-refuses c = λ m other.
     let inv = c.loop-from.invariant in
     let p = err_from_is_err_and c.from_residual-in_err-add_block.result c.from_residual-in_err-add_block.ensures.1 in
     rw (p.1, p.2) (passes_refuses (Unit {0}) Event (IsFaultOfBlock c.in_ok-block.block) c.in_err-add_block.field-0.0 (λ x. x ≡ m) c.in_err-add_block.ensures.malformed
-        (λ x h. same_malformed c.args.datagram.now x m (records_fault c.args.settings.now c.args.last c.args.next c.args.datagram.now c.loop-from.from c.loop-from.delivery inv.0 c.in_ok-block.block x inv.1 c.in_ok-block.ensures.found h) other))
+    (λ x h. same_malformed c.args.datagram.now x m (records_fault c.args.settings.now c.args.last c.args.next c.args.datagram.now c.loop-from.from c.loop-from.delivery inv.0 c.in_ok-block.block x inv.1 c.in_ok-block.ensures.found h) other))
 
 pub loop-from-preserved : goal.loop-from-preserved
 loop-from-preserved c =

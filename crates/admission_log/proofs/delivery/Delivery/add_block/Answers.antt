@@ -17,7 +17,7 @@ returns-in_ok-add_services-in-34-clause-read c =
     let content = records_content Cat034 block read.0 (inl refl) (sym c.in-34.is) c.requires.is_block read.1 in
     let services = c.deref.ensures.value ∙ read.2 in
     let brings : BringsMessages c.args.settings.now c.args.last (map service (services_of read.0)) c.args.self.now c.add_services.new.self =
-        subst (λ xs. BringsMessages c.args.settings.now c.args.last (map service xs) c.args.self.now c.add_services.new.self) services (c.in_ok-add_services-in-34.ensures c.args.last) in
+    subst (λ xs. BringsMessages c.args.settings.now c.args.last (map service xs) c.args.self.now c.add_services.new.self) services (c.in_ok-add_services-in-34.ensures c.args.last) in
     (records Cat034 read.0, content.0, content.1, brings_messages c.args.settings.now c.args.last (records Cat034 read.0) _ c.args.self.now c.add_services.new.self refl (omega arith) brings)
 
 pub returns-in_ok-add_reports-in-48-clause-read : goal.returns-in_ok-add_reports-in-48-clause-read
@@ -27,7 +27,7 @@ returns-in_ok-add_reports-in-48-clause-read c =
     let content = records_content Cat048 block read.0 (inr refl) (sym c.in-48.is) c.requires.is_block read.1 in
     let reports = c.deref-in-48.ensures.value ∙ read.2 in
     let brings : BringsMessages c.args.settings.now c.args.last (map report (reports_of read.0)) c.args.self.now c.add_reports.new.self =
-        subst (λ xs. BringsMessages c.args.settings.now c.args.last (map report xs) c.args.self.now c.add_reports.new.self) reports c.in_ok-add_reports-in-48.ensures in
+    subst (λ xs. BringsMessages c.args.settings.now c.args.last (map report xs) c.args.self.now c.add_reports.new.self) reports c.in_ok-add_reports-in-48.ensures in
     (records Cat048 read.0, content.0, content.1, brings_messages c.args.settings.now c.args.last (records Cat048 read.0) _ c.args.self.now c.add_reports.new.self refl (omega arith) brings)
 
 pub returns-in_default-clause-read : goal.returns-in_default-clause-read

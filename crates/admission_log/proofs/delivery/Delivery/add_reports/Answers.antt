@@ -14,8 +14,8 @@ loop-report-preserved c =
     let reports = c.args.reports.now in
     let r = c.report-item.result in
     let one : BringsMessages settings c.args.last (report r ∷ []) mid new =
-        (subst (λ j. Brings (j ∷ []) mid new) c.admission.ensures c.in_ok-add.ensures.brings, c.in_ok-add.ensures.other) in
+    (subst (λ j. Brings (j ∷ []) mid new) c.admission.ensures c.in_ok-add.ensures.brings, c.in_ok-add.ensures.other) in
     let grown : map report (take i reports) ++ report r ∷ [] ≡ map report (take (i + 1) reports) =
-        sym (map-append report (take i reports) (r ∷ [])) ∙ ap (map report) (ap (λ x. take i reports ++ x ∷ []) c.report-item.is ∙ sym (take_more reports i r c.loop-report-test.true)) in
+    sym (map-append report (take i reports) (r ∷ [])) ∙ ap (map report) (ap (λ x. take i reports ++ x ∷ []) c.report-item.is ∙ sym (take_more reports i r c.loop-report-test.true)) in
     subst (λ ms. BringsMessages settings c.args.last ms c.args.self.now new) grown
-        (messages_more settings c.args.last (map report (take i reports)) (report r ∷ []) c.args.self.now mid new c.loop-report.invariant one)
+    (messages_more settings c.args.last (map report (take i reports)) (report r ∷ []) c.args.self.now mid new c.loop-report.invariant one)
