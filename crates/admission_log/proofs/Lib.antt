@@ -4,3 +4,4 @@ pub mod Bringing
 pub mod Contents
 pub mod Reading
 pub mod Sound
+pub mod Rising

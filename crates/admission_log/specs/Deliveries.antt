@@ -10,6 +10,7 @@ use Rattle.admission_log.specs.declared.events.Event.{Event}
 use Rattle.admission_log.specs.declared.events.Event.TheVariants.{Deliver}
 use Rattle.admission_log.specs.Messages.{Message, report, service, messages_of, other_count}
 use Rattle.admission_log.specs.Outcomes.{judged, outcome_of, counted_radar}
+use Rattle.admission_log.specs.Histories.{History, last_of, next_of}
 
 -- what is admitted of a message after a last tick, under that arrival, or what is told of it
 abbrev pub judged_message : Settings → ℕ → ℕ → Message → Result Admitted Outcome
@@ -37,6 +38,10 @@ delivered feed js other = Deliver feed (filter_map admitted_by js) (map outcome_
 -- the event of a datagram of these blocks
 abbrev pub delivery : Settings → ℕ → ℕ → ℕ → List Content → Event
 delivery settings last next feed contents = delivered feed (judged_all settings last next (messages_of contents)) (other_count contents)
+
+-- .. to a log
+abbrev pub delivery_to : Settings → History → ℕ → List Content → Event
+delivery_to settings log feed contents = delivery settings (last_of log) (next_of log) feed contents
 
 -- what an event tells of each message
 abbrev pub outcomes_in : Event → List Outcome

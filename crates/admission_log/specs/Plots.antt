@@ -3,9 +3,9 @@ use Rattle.std.specs.Prelude.{ℕ, nat_lt, Bool, if◌then◌else◌, List, [], 
 use Rattle.std.specs.Option.{option_map}
 use Rattle.std.specs.Ordering.{is_lt}
 use Rattle.trk_base.specs.Numbers.{slot_of}
-use Rattle.trk_base.specs.Keys.{key_cmp}
 use Rattle.trk_base.specs.declared.keys.Key.{Key}
 use Rattle.plot_geometry.specs.declared.plots.PlanePlot.{PlanePlot}
+use Rattle.plot_geometry.specs.PlotOrder.{plot_cmp}
 use Rattle.plot_geometry.specs.PlanePlots.{plane_plot}
 use Rattle.admission_log.specs.declared.settings.Settings.{Settings}
 use Rattle.admission_log.specs.declared.events.Admitted.{Admitted}
@@ -27,10 +27,10 @@ is_closed last a = nat_lt (slot_of a.time) (slot_of last)
 abbrev pub closed_plots : Settings → History → List PlanePlot
 closed_plots settings log = filter_map (plane_of settings) (filter (is_closed (last_of log)) (admitted_of log))
 
--- put in its place among plots in rising key
+-- put in its place in a list whose keys rise; plots of one key, which no legal log has, go by their other fields
 abbrev pub put : PlanePlot → List PlanePlot → List PlanePlot
 put plot [] = plot ∷ []
-put plot (p ∷ ps) = if is_lt (key_cmp plot.key p.key) then plot ∷ p ∷ ps else p ∷ put plot ps
+put plot (p ∷ ps) = if is_lt (plot_cmp p plot) then p ∷ put plot ps else plot ∷ p ∷ ps
 
 abbrev pub in_rising_key : List PlanePlot → List PlanePlot
 in_rising_key [] = []

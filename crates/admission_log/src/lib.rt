@@ -4,6 +4,7 @@
 mod delivery;
 mod events;
 mod judging;
+mod laws;
 mod log;
 mod settings;
 #[cfg(test)]
@@ -12,5 +13,6 @@ mod tests;
 pub use delivery::deliver;
 pub use events::{AdmitError, Admitted, Event, Outcome, Receipt, TickError};
 pub use judging::{MOST_AHEAD, judge};
+pub use laws::one_rising_order;
 pub use log::{LIMIT, Log};
 pub use settings::{MAX_RADARS, Settings, radar_of};

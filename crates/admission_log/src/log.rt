@@ -3,8 +3,8 @@ ghost use Rattle.asterix_frame.specs.declared.block.Malformed.{Malformed};
 ghost use Rattle.asterix_frame.specs.Answers.{IfMalformed, Reads, Refuses};
 ghost use Rattle.asterix_frame.specs.Datagrams.{Content, IsDatagram, DatagramFault};
 ghost use Rattle.admission_log.specs.declared.settings.Settings.{Settings};
-ghost use Rattle.admission_log.specs.Histories.{appended, last_of, next_of, published_of, cut_of, admitted_in};
-ghost use Rattle.admission_log.specs.Deliveries.{delivery, outcomes_in};
+ghost use Rattle.admission_log.specs.Histories.{appended, last_of, published_of, cut_of, admitted_in};
+ghost use Rattle.admission_log.specs.Deliveries.{delivery_to, outcomes_in};
 ghost use Rattle.admission_log.specs.Legality.{IsLegal};
 
 use crate::{AdmitError, Event, Outcome, Receipt, Settings, TickError, deliver};
@@ -91,14 +91,14 @@ impl Log {
         requires { length datagram.now ≤ 65535 }
         ensures place { IfOk result (λ r. r.at ≡ length self.old.events) }
         ensures delivered { IfOk result (λ r. (contents : List Content) × IsDatagram datagram.now contents
-            × (self.new ≡ appended self.old (delivery settings.now (last_of self.old) (next_of self.old) feed contents))
-            × (r.outcomes ≡ outcomes_in (delivery settings.now (last_of self.old) (next_of self.old) feed contents))) }
+            × (self.new ≡ appended self.old (delivery_to settings.now self.old feed contents))
+            × (r.outcomes ≡ outcomes_in (delivery_to settings.now self.old feed contents))) }
         ensures malformed { IfMalformed result (λ m. DatagramFault datagram.now m.offset m.cause) }
 
         // The other directions, unless memory is wanting.
         ensures reads { (contents : List Content) → IsDatagram datagram.now contents → Reads result (λ r.
-            (self.new ≡ appended self.old (delivery settings.now (last_of self.old) (next_of self.old) feed contents))
-            × (r.outcomes ≡ outcomes_in (delivery settings.now (last_of self.old) (next_of self.old) feed contents))) }
+            (self.new ≡ appended self.old (delivery_to settings.now self.old feed contents))
+            × (r.outcomes ≡ outcomes_in (delivery_to settings.now self.old feed contents))) }
         ensures refuses { (m : Malformed) → DatagramFault datagram.now m.offset m.cause → Refuses result (λ x. x ≡ m) }
 
         ensures err { OnErr result (self.new ≡ self.old) }

@@ -116,6 +116,18 @@ fn tells_the_first_fault(rt: HostRuntime) -> Result<(), Fail> {
         fault_of(&mut log, &settings, &[0x30, 0, 5, 0x80, 1, 0x30, 0, 2]),
         Some((4, 5))
     );
+
+    // A record that is bad takes a good one before it along.
+    assert_eq!(rt;
+        fault_of(
+            &mut log,
+            &settings,
+            &[
+                0x30, 0, 16, 0xF0, 1, 1, 0x46, 0x50, 10, 0xA0, 1, 0, 0, 0, 0x80, 1
+            ]
+        ),
+        Some((15, 5))
+    );
     assert!(rt; log.events().is_empty());
     Ok(())
 }
