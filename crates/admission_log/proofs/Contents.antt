@@ -1,8 +1,7 @@
 -- A block that was read, as what it is in the datagram, and what it brings.
-use Rattle.std.proofs.Common.{◌≡◌, ◌∙◌, ◌≢◌, ap, sym, subst, refl, ℕ, ◌+◌, List, [], ◌∷◌, map, arith}
+use Rattle.std.proofs.Common.{◌≡◌, ◌≢◌, sym, subst, refl, ℕ, List, [], ◌∷◌, arith}
 use Rattle.asterix_frame.specs.declared.block.Block.{Block}
 use Rattle.asterix_frame.specs.declared.tables.Uap.{Uap}
-use Rattle.asterix_frame.specs.declared.tables.Uap.TheVariants.{Cat034, Cat048}
 use Rattle.asterix_frame.specs.Tables.{category_of}
 use Rattle.asterix_frame.specs.Blocks.{DataBlock, IsDataBlock}
 use Rattle.asterix_frame.specs.Places.{data_block}

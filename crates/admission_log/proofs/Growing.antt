@@ -9,8 +9,7 @@ use Rattle.std.proofs.lemmas.Grind.{flat_map-append}
 use Rattle.std.proofs.Math.Seq.{take-append_seam}
 use Rattle.admission_log.specs.declared.settings.Settings.{Settings}
 use Rattle.admission_log.specs.declared.events.Event.{Event}
-use Rattle.admission_log.specs.declared.events.Event.TheVariants.{Deliver, Tick, Publish}
-use Rattle.admission_log.specs.Histories.{History, appended, first, tick_in, admitted_in, published_in, last_of, admitted_of, next_of, publications_of, published_of, cut_of}
+use Rattle.admission_log.specs.Histories.{History, appended, tick_in, admitted_in, published_in, last_of, admitted_of, next_of, publications_of, published_of, cut_of}
 use Rattle.admission_log.specs.Legality.{IsLegal, IsLegalEvent}
 
 -- an element of a list with one more is an earlier one, or that one

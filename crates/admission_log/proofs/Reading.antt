@@ -1,7 +1,6 @@
 -- A datagram, read block by block: what the delivery holds, and where the first fault is.
-use Rattle.std.proofs.Common.{◌≡◌, ◌∙◌, ap, sym, subst, refl, ℕ, ◌+◌, ◌*◌, ◌<◌, ◌≤◌, List, [], ◌∷◌, ◌++◌, length, map, take, drop, Result, Ok, Err, Bool, true, false, cond, arith, length-append, append_assoc, append-nil}
-use Rattle.std.specs.Prelude.{count_by}
-use Rattle.std.specs.List.{flat_map, filter_map, AllByRecursion}
+use Rattle.std.proofs.Common.{◌≡◌, ◌∙◌, ap, sym, subst, refl, ℕ, ◌+◌, ◌*◌, ◌≤◌, List, [], ◌∷◌, ◌++◌, length, drop, true, false, cond, arith, length-append, append_assoc, append-nil}
+use Rattle.std.specs.List.{filter_map, AllByRecursion}
 use Rattle.std.proofs.lemmas.List.{drop_all}
 use Rattle.std.proofs.lemmas.Grind.{flat_map-append}
 use Rattle.std.proofs.lemmas.List.Sums.{sum_by-append}
@@ -11,7 +10,7 @@ use Rattle.asterix_frame.specs.Tables.{category_of}
 use Rattle.asterix_frame.specs.Blocks.{DataBlock, spelled}
 use Rattle.asterix_frame.specs.Places.{data_block, BeginsBlock}
 use Rattle.asterix_frame.specs.Answers.{BeginsNoBlock}
-use Rattle.asterix_frame.specs.Datagrams.{Content, IsContent, IsDatagram, DatagramFault, BeginsNoContent, BeginsFaultyBlock, no_block, no_records, block_of, datagram_of}
+use Rattle.asterix_frame.specs.Datagrams.{Content, IsContent, IsDatagram, DatagramFault, BeginsFaultyBlock, no_block, no_records, block_of, datagram_of}
 use Rattle.admission_log.specs.declared.settings.Settings.{Settings}
 use Rattle.admission_log.specs.declared.delivery.Delivery.{Delivery}
 use Rattle.asterix_frame.proofs.Datagrams.{first_fault}

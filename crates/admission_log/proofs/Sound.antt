@@ -1,6 +1,6 @@
 -- What is judged of messages makes a legal delivery.
-use Rattle.std.proofs.Common.{◌≡◌, ◌∙◌, ap, sym, subst, refl, ℕ, ◌+◌, ◌<◌, ◌≤◌, Bool, true, false, cond, List, [], ◌∷◌, length, map, Option, Some, None, Result, Ok, Err, arith}
-use Rattle.std.specs.Prelude.{nat_lt, ⊤}
+use Rattle.std.proofs.Common.{◌≡◌, ◌∙◌, ap, sym, refl, ℕ, ◌+◌, ◌<◌, ◌≤◌, Bool, true, false, cond, List, [], ◌∷◌, length, map, Option, Some, None, Result, Ok, Err}
+use Rattle.std.specs.Prelude.{nat_lt}
 use Rattle.std.specs.List.{filter_map, range_with_len, AllByRecursion, cons_option}
 use Rattle.std.proofs.lemmas.Bool.{ltb-true, ltb-false}
 use Rattle.std.proofs.lemmas.List.Elements.{All-from_recursion}
@@ -11,11 +11,10 @@ use Rattle.cat048_in.specs.Plots.{plot_of}
 use Rattle.admission_log.specs.declared.settings.Settings.{Settings}
 use Rattle.admission_log.specs.declared.events.Admitted.{Admitted}
 use Rattle.admission_log.specs.declared.events.Outcome.{Outcome}
-use Rattle.admission_log.specs.declared.events.Outcome.TheVariants as outcomes
 use Rattle.admission_log.specs.Sources.{radar_of}
 use Rattle.admission_log.specs.Histories.{low_at, high_at}
 use Rattle.admission_log.specs.Messages.{Message, report, service}
-use Rattle.admission_log.specs.Outcomes.{time_at, timed, placed, plotted, judged, outcome_of, counted_radar}
+use Rattle.admission_log.specs.Outcomes.{time_at, timed, placed, plotted, outcome_of}
 use Rattle.admission_log.specs.Deliveries.{judged_message, admitted_by, next_after, judged_all}
 use Rattle.admission_log.specs.Legality.{arrival_in, IsLegalPlot, IsLegalOutcome, IsLegalDelivery}
 

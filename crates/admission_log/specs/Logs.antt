@@ -1,5 +1,5 @@
 -- What a log keeps beside its events.
-use Rattle.std.specs.Prelude.{◌≡◌, ℕ, ◌<◌, ◌≤◌, ◌^◌, length}
+use Rattle.std.specs.Prelude.{◌≡◌, ◌<◌, ◌≤◌, ◌^◌}
 use Rattle.admission_log.specs.declared.log.Log.TheInside.{Inside}
 use Rattle.admission_log.specs.declared.log.TheConstants.{LIMIT}
 use Rattle.admission_log.specs.Histories.{History, last_of, next_of, published_of, cut_of}

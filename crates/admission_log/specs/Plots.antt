@@ -1,5 +1,5 @@
 -- The plots of a log: those that were admitted, in the slots that the last tick has closed, put into the plane, in rising key.
-use Rattle.std.specs.Prelude.{ℕ, nat_lt, Bool, if◌then◌else◌, List, [], ◌∷◌, Option, Some, None, slice_get, refl, filter, filter_map}
+use Rattle.std.specs.Prelude.{ℕ, nat_lt, Bool, if◌then◌else◌, List, [], ◌∷◌, Option, slice_get, refl, filter, filter_map}
 use Rattle.std.specs.Option.{option_map}
 use Rattle.std.specs.Ordering.{is_lt}
 use Rattle.trk_base.specs.Numbers.{slot_of}

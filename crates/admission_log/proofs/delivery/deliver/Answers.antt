@@ -1,15 +1,12 @@
-use Rattle.std.proofs.Common.{◌≡◌, ◌∙◌, ap, sym, subst, List, [], ◌∷◌, ◌++◌, Result, Err, length, ◌≤◌}
-use Rattle.std.specs.Prelude.{map}
-use Rattle.std.specs.List.{filter_map}
+use Rattle.std.proofs.Common.{◌≡◌, ◌∙◌, ap, [], ◌∷◌, ◌++◌}
 use Rattle.std.proofs.lemmas.Result.{err_from_is_err_and}
-use Rattle.asterix_frame.specs.declared.block.Malformed.{Malformed}
-use Rattle.asterix_frame.specs.Datagrams.{Content, IsDatagram, DatagramFault}
-use Rattle.asterix_frame.proofs.Datagrams.{one_list, first_fault, not_both}
+use Rattle.asterix_frame.specs.Datagrams.{DatagramFault}
+use Rattle.asterix_frame.proofs.Datagrams.{one_list, not_both}
 use Rattle.asterix_frame.proofs.Refusals.{passes_malformed, passes_reads, passes_refuses}
 use Rattle.admission_log.specs.declared.events.Event.{Event}
 use Rattle.admission_log.specs.Deliveries.{delivery}
 use Rattle.admission_log.specs.Brought.{IsFaultOfBlock}
-use Rattle.admission_log.proofs.Reading.{Holds, holds_more, is_datagram, head_fault, records_fault, held, same_malformed}
+use Rattle.admission_log.proofs.Reading.{holds_more, is_datagram, head_fault, records_fault, held, same_malformed}
 use Rattle.admission_log.proofs.delivery.deliver.Goals as goal
 
 pub returns-in_err-block-clause-reads : goal.returns-in_err-block-clause-reads

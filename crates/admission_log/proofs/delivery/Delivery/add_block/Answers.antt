@@ -1,11 +1,10 @@
-use Rattle.std.proofs.Common.{◌≡◌, ◌≢◌, ◌∙◌, ap, sym, subst, refl, [], ◌∷◌, ◌++◌, ◌+◌, map, arith, inl, inr, rules, append-nil}
+use Rattle.std.proofs.Common.{◌∙◌, sym, subst, refl, map, arith, inl, inr, rules, append-nil}
 use Rattle.asterix_frame.specs.declared.tables.Uap.TheVariants.{Cat034, Cat048}
-use Rattle.asterix_frame.specs.Datagrams.{Content, records, other, IsContent, block_of}
-use Rattle.asterix_frame.specs.Places.{data_block}
+use Rattle.asterix_frame.specs.Datagrams.{records, other}
 use Rattle.cat034_in.specs.Services.{services_of}
 use Rattle.cat048_in.specs.Reports.{reports_of}
 use Rattle.admission_log.specs.Messages.{report, service}
-use Rattle.admission_log.specs.Brought.{Brings, BringsMessages, BringsBlock}
+use Rattle.admission_log.specs.Brought.{BringsMessages}
 use Rattle.admission_log.proofs.Contents.{records_content, other_content, brings_messages}
 use Rattle.admission_log.proofs.delivery.Delivery.add_block.Goals as goal
 

@@ -1,4 +1,4 @@
-use Rattle.std.proofs.Common.{◌≡◌, ◌∙◌, ap, sym, subst, [], ◌∷◌, ◌++◌, ◌+◌, map, take, get_or}
+use Rattle.std.proofs.Common.{◌≡◌, ◌∙◌, ap, sym, subst, [], ◌∷◌, ◌++◌, ◌+◌, map, take}
 use Rattle.std.proofs.lemmas.List.{map-append, take_more}
 use Rattle.admission_log.specs.Messages.{report}
 use Rattle.admission_log.specs.Brought.{Brings, BringsMessages}

@@ -1,4 +1,4 @@
-use Rattle.std.proofs.Common.{◌≡◌, ◌∙◌, ap, sym, subst, ℕ, [], ◌∷◌, ◌++◌, ◌+◌, map, take, get_or, None, Err}
+use Rattle.std.proofs.Common.{◌≡◌, ◌∙◌, ap, sym, subst, [], ◌∷◌, ◌++◌, ◌+◌, map, take, get_or, None, Err}
 use Rattle.std.proofs.lemmas.List.{map-append, take_more, take_all}
 use Rattle.admission_log.specs.declared.events.Outcome.TheVariants as outcomes
 use Rattle.admission_log.specs.Messages.{service}

@@ -1,6 +1,6 @@
-use Rattle.std.proofs.Common.{◌≡◌, ◌∙◌, ap, sym, subst, arith, ℕ, List, [], ◌∷◌, ◌++◌, ◌+◌, length}
+use Rattle.std.proofs.Common.{◌≡◌, ◌∙◌, ap, sym, subst, arith, ℕ, [], ◌∷◌, ◌++◌, length}
 use Rattle.admission_log.specs.declared.events.Event.{Event}
-use Rattle.admission_log.specs.Histories.{History, appended, admitted_in, last_of, next_of}
+use Rattle.admission_log.specs.Histories.{admitted_in, last_of, next_of}
 use Rattle.admission_log.specs.Logs.{history}
 use Rattle.admission_log.specs.Messages.{messages_of}
 use Rattle.admission_log.specs.Deliveries.{delivery}

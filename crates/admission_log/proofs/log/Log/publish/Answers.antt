@@ -1,6 +1,6 @@
-use Rattle.std.proofs.Common.{◌≡◌, ◌∙◌, ap, sym, subst, arith, [], ◌∷◌, ◌++◌, ◌≤◌, ◌+◌, length}
+use Rattle.std.proofs.Common.{◌≡◌, ◌∙◌, ap, sym, subst, arith, ◌≤◌, ◌+◌}
 use Rattle.admission_log.specs.declared.events.Event.TheVariants.{Publish}
-use Rattle.admission_log.specs.Histories.{History, appended, published_of, cut_of}
+use Rattle.admission_log.specs.Histories.{appended, published_of, cut_of}
 use Rattle.admission_log.specs.Logs.{history}
 use Rattle.admission_log.specs.Legality.{IsLegal, IsLegalEvent}
 use Rattle.admission_log.proofs.Growing.{legal_appended, last-appended, next-appended, published-appended, cut-appended}

@@ -1,6 +1,5 @@
-use Rattle.std.proofs.Common.{◌≡◌, ◌∙◌, ap, sym, subst, arith, [], ◌∷◌, ◌++◌}
+use Rattle.std.proofs.Common.{◌∙◌, sym, subst, arith}
 use Rattle.admission_log.specs.declared.events.Event.TheVariants.{Tick}
-use Rattle.admission_log.specs.Histories.{History, appended}
 use Rattle.admission_log.specs.Logs.{history}
 use Rattle.admission_log.specs.Legality.{IsLegal}
 use Rattle.admission_log.proofs.Growing.{legal_appended, last-appended, next-appended, published-appended, cut-appended}
