@@ -1,7 +1,7 @@
 -- A body has exactly one reading: it is whole records, or has one first fault.
 use Rattle.std.proofs.Common.{◌≡◌, ◌∙◌, ap, sym, refl, subst, inl, inr, ℕ, ◌+◌, ◌-◌, ◌<◌, ◌≤◌, ◌⊎◌, List, [], ◌∷◌, ◌++◌, length, map, take, drop, arith, append_assoc, append-nil, length-append, Option, Some, None, Result, Ok, Err}
 use Rattle.std.specs.Prelude.{All, IfSome, IsSomeAnd}
-use Rattle.std.specs.List.{flat_map, AllByRecursion}
+use Rattle.std.specs.List.{AllByRecursion}
 use Rattle.std.specs.Option.{option_map, option_and_then}
 use Rattle.std.proofs.lemmas.Bool.{cases_lt}
 use Rattle.std.proofs.lemmas.List.{drop_all}
@@ -14,9 +14,8 @@ use Rattle.asterix_frame.specs.declared.walk.ItemSpans.{ItemSpans}
 use Rattle.asterix_frame.specs.declared.cause.TheConstants.{TIME_RANGE}
 use Rattle.asterix_frame.specs.declared.tables.Uap.{Uap}
 use Rattle.asterix_frame.specs.Tables.{table_of, time_frn}
-use Rattle.asterix_frame.specs.Parts.{Part}
 use Rattle.asterix_frame.specs.Records.{Walks}
-use Rattle.asterix_frame.specs.DataRecords.{item, time_in, time_of, DataRecord, record_octets, IsDataRecord, BeginsNoDataRecord}
+use Rattle.asterix_frame.specs.DataRecords.{time_in, time_of, DataRecord, record_octets, IsDataRecord, BeginsNoDataRecord}
 use Rattle.asterix_frame.specs.Bodies.{IsSpan, span_of, parts_at, AreDataRecords, IsBody, BodyFault, body_of, HasDataRecord, HaveDataRecords, HasRecords, AreSpans, IsFaultFrom, IsFaultOfBody, IsLate}
 use Rattle.asterix_frame.proofs.Sequences as sequences
 use Rattle.asterix_frame.proofs.Placed.{item_is_at, walk_spans}

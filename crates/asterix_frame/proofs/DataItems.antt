@@ -1,17 +1,16 @@
 -- The items of a record with its time of day: found by FRN, judged, and where they lie.
-use Rattle.std.proofs.Common.{◌≡◌, ◌∙◌, ap, sym, refl, subst, inl, inr, zero, suc, ℕ, ◌+◌, ◌-◌, ◌*◌, ◌<◌, ◌≤◌, ◌⊎◌, ◌==◌, Bool, true, false, List, [], ◌∷◌, ◌++◌, length, take, drop, arith, append_assoc, length-append, eq-eqb, ne_eqb, Option, Some, None}
+use Rattle.std.proofs.Common.{◌≡◌, ◌∙◌, ap, sym, refl, subst, inl, inr, zero, suc, ℕ, ◌+◌, ◌*◌, ◌<◌, ◌≤◌, ◌==◌, Bool, true, false, List, [], ◌∷◌, ◌++◌, length, arith, eq-eqb, ne_eqb, Option, Some, None}
 use Rattle.std.specs.Prelude.{if◌then◌else◌, IfSome, IsSomeAnd}
 use Rattle.std.specs.List.{AllByRecursion}
 use Rattle.std.specs.Option.{option_and_then}
 use Rattle.std.proofs.lemmas.Bool.{cases_eq}
 use Rattle.trk_base.specs.Numbers.{day}
-use Rattle.asterix_frame.specs.declared.cause.TheConstants.{TIME_RANGE}
 use Rattle.asterix_frame.specs.declared.tables.Uap.{Uap}
 use Rattle.asterix_frame.specs.Tables.{table_of, time_frn}
 use Rattle.asterix_frame.specs.Presence.{present, present_from, presence}
-use Rattle.asterix_frame.specs.Parts.{Part, numbers, octets_of}
+use Rattle.asterix_frame.specs.Parts.{Part, numbers}
 use Rattle.asterix_frame.specs.Items.{IsItem, BeginsNoItem, item_at}
-use Rattle.asterix_frame.specs.DataRecords.{item, time_in, time_of, IsDataItem, BeginsLateTime, BeginsNoDataItem, no_item, late_time}
+use Rattle.asterix_frame.specs.DataRecords.{item, time_in, time_of, IsDataItem, BeginsNoDataItem, no_item, late_time}
 use Rattle.asterix_frame.proofs.Codes.{IsCode}
 use Rattle.asterix_frame.proofs.Heads.{split_same}
 use Rattle.asterix_frame.proofs.ItemCodes.{item_code}

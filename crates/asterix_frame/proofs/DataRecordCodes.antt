@@ -1,5 +1,5 @@
 -- Octets begin one record at most, or have one fault; and a walk over a record decides which.
-use Rattle.std.proofs.Common.{◌≡◌, ◌∙◌, ap, sym, refl, subst, inl, inr, ℕ, ◌+◌, ◌-◌, ◌<◌, ◌≤◌, ◌⊎◌, List, [], ◌∷◌, ◌++◌, length, take, drop, arith, append_assoc, append-nil, length-append, length-drop, Option, Some, None, Result, Ok, Err}
+use Rattle.std.proofs.Common.{◌≡◌, ◌∙◌, ap, sym, refl, subst, inl, inr, ℕ, ◌+◌, ◌-◌, ◌<◌, ◌≤◌, List, [], ◌∷◌, ◌++◌, length, take, drop, arith, append_assoc, append-nil, length-append, length-drop, Option, Some, None, Result, Ok, Err}
 use Rattle.std.specs.Prelude.{IfSome, IsSomeAnd}
 use Rattle.std.specs.List.{AllByRecursion}
 use Rattle.std.proofs.lemmas.List.{drop-drop, drop_at}
@@ -10,13 +10,13 @@ use Rattle.asterix_frame.specs.declared.tables.Uap.{Uap}
 use Rattle.asterix_frame.specs.Tables.{table_of, time_frn}
 use Rattle.asterix_frame.specs.Presence.{EndsInField, HasSpare}
 use Rattle.asterix_frame.specs.Parts.{Part, octets_of}
-use Rattle.asterix_frame.specs.Records.{knows, spans, BeginsRecord, HasRecord, Walks}
+use Rattle.asterix_frame.specs.Records.{knows, spans, BeginsRecord, Walks}
 use Rattle.asterix_frame.specs.Records.{ends_in_fspec as walk_ends, has_spare as walk_spare, in_item as walk_item}
 use Rattle.asterix_frame.specs.DataRecords.{time_in, time_of, IsDataItem, BeginsNoDataItem, no_item, DataRecord, record_octets, IsDataRecord, BeginsDataRecord, FaultyDataItem, BeginsNoDataRecord, ends_in_fspec, has_spare, in_item}
 use Rattle.asterix_frame.specs.Bodies.{span_of, parts_at}
-use Rattle.asterix_frame.proofs.Codes.{IsCode, Stops, begins_same, field_not_ends, field_not_spare, ends_not_spare, one_spare}
+use Rattle.asterix_frame.proofs.Codes.{Stops, begins_same, field_not_ends, field_not_spare, ends_not_spare, one_spare}
 use Rattle.asterix_frame.proofs.DataItems.{data_item_code, items_rise, judged}
-use Rattle.asterix_frame.proofs.Placed.{parts_are, LateFault, late_fault}
+use Rattle.asterix_frame.proofs.Placed.{parts_are, late_fault}
 use Rattle.asterix_frame.proofs.Sequences.{AreCode}
 
 module _ (uap : Uap) where

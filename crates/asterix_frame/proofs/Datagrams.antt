@@ -1,17 +1,15 @@
 -- A datagram has exactly one reading down to its items: it is whole blocks, or has one first fault.
-use Rattle.std.proofs.Common.{◌≡◌, ◌∙◌, ap, sym, refl, subst, inl, inr, ℕ, ◌+◌, ◌<◌, ◌≤◌, ◌⊎◌, List, [], ◌∷◌, ◌++◌, length, drop, arith, append_assoc, length-append}
+use Rattle.std.proofs.Common.{◌≡◌, ◌∙◌, ap, sym, refl, subst, inl, inr, ℕ, ◌+◌, ◌<◌, ◌⊎◌, List, [], ◌∷◌, ◌++◌, length, drop, arith, append_assoc, length-append}
 use Rattle.std.specs.Prelude.{All}
-use Rattle.std.specs.List.{AllByRecursion}
 use Rattle.std.proofs.lemmas.Bool.{cases_eq}
 use Rattle.std.proofs.lemmas.List.{drop_at}
 use Rattle.std.proofs.lemmas.List.Elements.{All-drop}
 use Rattle.asterix_frame.specs.declared.tables.Uap.{Uap}
 use Rattle.asterix_frame.specs.declared.tables.Uap.TheVariants.{Cat034, Cat048}
 use Rattle.asterix_frame.specs.Tables.{category_of}
-use Rattle.asterix_frame.specs.Blocks.{DataBlock, IsDataBlock, AreDataBlocks, BeginsNone, BlockFault, spelled, spelling}
-use Rattle.asterix_frame.specs.DataRecords.{DataRecord}
+use Rattle.asterix_frame.specs.Blocks.{DataBlock, IsDataBlock, AreDataBlocks, BeginsNone, spelled, spelling}
 use Rattle.asterix_frame.specs.Bodies.{IsBody, BodyFault, body_of}
-use Rattle.asterix_frame.specs.Datagrams.{Content, records, other, block_of, IsRead, IsContent, IsDatagram, BeginsFaultyBlock, BeginsNoContent, no_block, no_records, DatagramFault}
+use Rattle.asterix_frame.specs.Datagrams.{Content, records, other, block_of, IsRead, IsContent, IsDatagram, BeginsNoContent, no_block, no_records, DatagramFault}
 use Rattle.asterix_frame.proofs.Heads.{same_fault, begins_block, same_block}
 use Rattle.asterix_frame.proofs.Readings as heads
 use Rattle.asterix_frame.proofs.Bodies as bodies

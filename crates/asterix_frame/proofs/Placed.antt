@@ -1,5 +1,5 @@
 -- Where the items of a record lie, and which of them is a time of day past a day.
-use Rattle.std.proofs.Common.{◌≡◌, ◌∙◌, ap, sym, refl, subst, inl, inr, ℕ, ◌+◌, ◌-◌, ◌<◌, ◌≤◌, ◌==◌, List, [], ◌∷◌, ◌++◌, length, map, take, drop, arith, append_assoc, length-append, length-drop, eq-eqb, ne_eqb, Option, Some, None, Result, Ok, Err}
+use Rattle.std.proofs.Common.{◌≡◌, ◌∙◌, ap, sym, refl, subst, inl, inr, ℕ, ◌+◌, ◌-◌, ◌≤◌, List, [], ◌∷◌, ◌++◌, length, take, drop, arith, append_assoc, length-append, eq-eqb, ne_eqb, Option, Some, None, Result, Ok, Err}
 use Rattle.std.specs.Prelude.{if◌then◌else◌, All, IsSomeAnd}
 use Rattle.std.specs.List.{AllByRecursion}
 use Rattle.std.specs.Option.{option_map}
@@ -14,7 +14,7 @@ use Rattle.asterix_frame.specs.declared.tables.Uap.{Uap}
 use Rattle.asterix_frame.specs.Tables.{table_of, time_frn}
 use Rattle.asterix_frame.specs.Parts.{Part, numbers, octets_of}
 use Rattle.asterix_frame.specs.Items.{IsItem, item_at}
-use Rattle.asterix_frame.specs.Records.{BeginsRecord, LiesIn, spans, HasRecord, ends_in_fspec, has_spare, in_item, Walks}
+use Rattle.asterix_frame.specs.Records.{BeginsRecord, spans, ends_in_fspec, has_spare, in_item, Walks}
 use Rattle.asterix_frame.specs.DataRecords.{item, time_in, IsDataItem, late_time, FaultyDataItem}
 use Rattle.asterix_frame.specs.Bodies.{IsSpan, span_of, part_at, parts_at}
 use Rattle.asterix_frame.proofs.DataItems.{item_here, item_later}

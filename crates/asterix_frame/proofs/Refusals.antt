@@ -1,5 +1,5 @@
 -- A refusal that is passed on by `?`.
-use Rattle.std.proofs.Common.{Result, Ok, Err}
+use Rattle.std.proofs.Common.{Err}
 use Rattle.asterix_frame.specs.declared.block.Malformed.{Malformed}
 use Rattle.asterix_frame.specs.declared.block.BlocksError.{BlocksError}
 use Rattle.asterix_frame.specs.declared.block.BlocksError.TheVariants as errors

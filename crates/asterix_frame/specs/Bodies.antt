@@ -1,5 +1,5 @@
 -- The body of a block as a list of records, and where they lie in it.
-use Rattle.std.specs.Prelude.{◌≡◌, ℕ, ◌+◌, ◌-◌, ◌<◌, ◌≤◌, ◌==◌, if◌then◌else◌, List, [], ◌∷◌, ◌++◌, length, map, take, drop, All, Option, Some, None, IsSomeAnd}
+use Rattle.std.specs.Prelude.{◌≡◌, ℕ, ◌+◌, ◌-◌, ◌≤◌, ◌==◌, if◌then◌else◌, List, [], ◌∷◌, ◌++◌, length, map, take, drop, All, Option, Some, None, IsSomeAnd}
 use Rattle.trk_base.specs.Numbers.{day}
 use Rattle.std.specs.List.{flat_map, filter_map, AllByRecursion}
 use Rattle.asterix_frame.specs.declared.block.Malformed.{Malformed}

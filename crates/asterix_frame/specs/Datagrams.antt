@@ -1,5 +1,5 @@
 -- A whole datagram: blocks, of which those of radar messages (category 34) and target reports (category 48) are lists of records, and all others are passed over.
-use Rattle.std.specs.Prelude.{◌≡◌, ◌≢◌, ◌⊎◌, ℕ, ◌+◌, List, [], ◌∷◌, ◌++◌, length}
+use Rattle.std.specs.Prelude.{◌≡◌, ◌≢◌, ◌⊎◌, ℕ, ◌+◌, List, [], ◌++◌, length}
 use Rattle.std.specs.List.{flat_map, AllByRecursion}
 use Rattle.asterix_frame.specs.declared.tables.Uap.{Uap}
 use Rattle.asterix_frame.specs.declared.tables.Uap.TheVariants.{Cat034, Cat048}

@@ -38,7 +38,7 @@ pub struct Malformed {
     pub cause: u8,
 }
 
-/// Why a datagram wasn't cut into its blocks, or a record not walked.
+/// Why a datagram wasn't cut into its blocks, a record not walked, or a block's records not read.
 #[derive(Clone, Copy, Debug, PartialEq, Eq)]
 pub enum BlocksError {
     /// The octets aren't in the grammar.

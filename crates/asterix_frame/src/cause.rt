@@ -14,5 +14,5 @@ pub const ITEM_END: u8 = 5;
 pub const LENGTH_ZERO: u8 = 6;
 /// A bit of a compound item's primary field has no subfield. Told at that primary octet.
 pub const UNKNOWN_SUBFIELD: u8 = 7;
-/// A time of day is a day or more. Told at the item's first octet; the readers of the categories tell it.
+/// A time of day is a day or more. It is judged when its item is whole, and told at the item's first octet.
 pub const TIME_RANGE: u8 = 8;

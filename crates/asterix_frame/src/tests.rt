@@ -1,6 +1,6 @@
 use crate::{
     Block, BlockWriter, BlocksError, ItemSpans, Malformed, Uap, WalkError, blocks, cause,
-    first_block, records, walk_items, walk_record,
+    first_block, first_record, records, walk_items, walk_record,
 };
 use std::alloc::Global;
 use std::process::Abort;
@@ -224,6 +224,9 @@ fn reads_the_records_of_a_body(rt: HostRuntime) {
     );
     assert_eq!(rt; found[2].item(block.body, 1), Some([0x01, 0x02].as_slice()));
     assert_eq!(rt; found[2].next, 11);
+    let second = first_record(rt.alloc(), Uap::Cat048, &block, 4).expect(&rt, "a record");
+    assert!(rt; second.frns.is_empty());
+    assert_eq!(rt; second.next, 5);
 }
 
 // A record of all items of a category, and their ends.

@@ -8,7 +8,6 @@ use Rattle.trk_base.specs.Ranges.{IsTimeOfDay}
 use Rattle.std.proofs.lemmas.List.Elements.{All-from_recursion}
 use Rattle.asterix_frame.specs.declared.tables.Uap.TheVariants.{Cat034}
 use Rattle.asterix_frame.specs.declared.walk.ItemSpans.{ItemSpans}
-use Rattle.asterix_frame.specs.Parts.{Part}
 use Rattle.asterix_frame.specs.DataRecords.{DataRecord, time_of}
 use Rattle.asterix_frame.specs.Bodies.{AreDataRecords, HaveDataRecords, parts_at}
 use Rattle.asterix_frame.proofs.DataItems.{time_in_day}

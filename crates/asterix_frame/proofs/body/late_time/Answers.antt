@@ -1,4 +1,4 @@
-use Rattle.std.proofs.Common.{◌≡◌, ◌∙◌, sym, ap, subst, ◌<◌, ℕ, length, arith, Some, None}
+use Rattle.std.proofs.Common.{◌∙◌, sym, ap, subst, ◌<◌, arith}
 use Rattle.std.specs.Prelude.{IfSome}
 use Rattle.std.proofs.lemmas.List.Elements.{recursion_from_All}
 use Rattle.trk_base.specs.Numbers.{day}

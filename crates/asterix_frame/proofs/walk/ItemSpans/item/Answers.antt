@@ -1,4 +1,4 @@
-use Rattle.std.proofs.Common.{◌≡◌, ◌∙◌, sym, ap, refl, ◌-◌, take, drop}
+use Rattle.std.proofs.Common.{◌∙◌, sym, ap, refl, ◌-◌, take, drop}
 use Rattle.std.specs.Option.{option_map}
 use Rattle.std.proofs.lemmas.List.Elements.{recursion_from_All}
 use Rattle.asterix_frame.specs.Bodies.{IsSpan, span_of}
