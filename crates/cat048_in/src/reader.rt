@@ -1,9 +1,9 @@
 // The reports of a block.
-ghost use Rattle.std.specs.Prelude.{◌≡◌, List, IfOk};
+ghost use Rattle.std.specs.Prelude.{◌≡◌, List, map, IfOk};
 ghost use Rattle.asterix_frame.specs.declared.block.Malformed.{Malformed};
 ghost use Rattle.asterix_frame.specs.declared.tables.Uap.TheVariants.{Cat048};
 ghost use Rattle.asterix_frame.specs.Answers.{Reads, Refuses, IfMalformed};
-ghost use Rattle.asterix_frame.specs.DataRecords.{DataRecord};
+ghost use Rattle.asterix_frame.specs.DataRecords.{DataRecord, time_of};
 ghost use Rattle.asterix_frame.specs.Bodies.{IsBody, IsFaultOfBody, AreSpans, parts_at};
 ghost use Rattle.cat048_in.specs.Reports.{octets, report_of, reports_of};
 
@@ -41,6 +41,7 @@ pub fn read048(alloc: Global, block: &Block<'_>) -> Result<Vec<Report>, ReadErro
 
     // The other directions, unless memory is wanting.
     ensures reads { (rs : List DataRecord) → IsBody Cat048 block.now.body.now rs → Reads result (λ v. v.items ≡ reports_of rs) }
+    ensures times { (rs : List DataRecord) → IsBody Cat048 block.now.body.now rs → Reads result (λ v. map (λ r. r.tod) v.items ≡ map (λ r. time_of Cat048 r.items) rs) }
     ensures refuses { (m : Malformed) → IsFaultOfBody Cat048 block.now m → Refuses result (λ x. x ≡ m) }
 {
     let records = records(alloc, Uap::Cat048, block)?;

@@ -2,7 +2,8 @@ use Rattle.std.proofs.Common.{◌≡◌, ◌∙◌, ap}
 use Rattle.std.specs.Prelude.{map}
 use Rattle.std.proofs.lemmas.List.{take_all}
 use Rattle.asterix_frame.specs.declared.tables.Uap.TheVariants.{Cat048}
-use Rattle.cat048_in.proofs.Told.{report_at, told}
+use Rattle.cat048_in.specs.declared.report.Report.{Report}
+use Rattle.cat048_in.proofs.Told.{report_at, told, timed}
 use Rattle.cat048_in.proofs.reader.read048.Goals as goal
 
 pub returns-clause-read : goal.returns-clause-read
@@ -17,3 +18,9 @@ returns-clause-reads c = λ rs is.
     let body = c.args.block.now.body.now in
     let all : c.loop-record.reports.items ≡ map (report_at body) c.in_ok-records.records.items = c.loop-record.invariant ∙ ap (map (report_at body)) (take_all _ _ c.loop-record-test.false ∙ c.deref-record-items.ensures.value) in
     all ∙ told Cat048 body 0 rs _ (c.in_ok-records.ensures.reads rs is)
+
+pub returns-clause-times : goal.returns-clause-times
+returns-clause-times c = λ rs is.
+    let body = c.args.block.now.body.now in
+    let all : c.loop-record.reports.items ≡ map (report_at body) c.in_ok-records.records.items = c.loop-record.invariant ∙ ap (map (report_at body)) (take_all _ _ c.loop-record-test.false ∙ c.deref-record-items.ensures.value) in
+    ap (map (λ (r : Report). r.tod)) (all ∙ told Cat048 body 0 rs _ (c.in_ok-records.ensures.reads rs is)) ∙ timed rs is.are_records
