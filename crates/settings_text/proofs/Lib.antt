@@ -1,3 +1,5 @@
+pub mod Entries
 pub mod Names
 pub mod Ranges
 pub mod Reading
+pub mod Repeating

@@ -28,6 +28,7 @@ gives_more table rules numbers i d number h k given found =
 pub first_fault : (radar : Option ℕ) (table : Members) (rules : List KeyRule) (numbers : List ℤ) (i : ℕ) (d : KeyRule) (fault : SettingsFault) → i < length rules
     → Gives table (take i rules) (take i numbers) → fault_at radar table (get_or rules i d) ≡ Some fault → IsFirst fault (faults radar table rules)
 first_fault radar table rules numbers i d fault h given found =
-    let rest = drop (suc i) rules in
-    (faults radar table rest,
-      ap (faults radar table) (split_at rules i d h) ∙ filter_map-append (fault_at radar table) (take i rules) (get_or rules i d ∷ rest) ∙ rw (no_faults radar table (take i rules) (take i numbers) given, found))
+    let rest = drop (suc i) rules in (
+      faults radar table rest,
+      ap (faults radar table) (split_at rules i d h) ∙ filter_map-append (fault_at radar table) (take i rules) (get_or rules i d ∷ rest) ∙ rw (no_faults radar table (take i rules) (take i numbers) given, found),
+    )

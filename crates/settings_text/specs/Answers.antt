@@ -1,5 +1,5 @@
 -- What the octets of the settings are read to: settings, or the first fault.
-use Rattle.std.specs.Prelude.{◌≡◌, ℕ, ◌<◌, ◌≤◌, true, false, List, [], ◌∷◌, length, take, slice_get, Option, Some, Result, Ok, Err}
+use Rattle.std.specs.Prelude.{◌≡◌, ⊤, ℕ, ◌<◌, ◌≤◌, true, false, List, [], ◌∷◌, length, take, slice_get, Option, Some, Result, Ok, Err}
 use Rattle.std.specs.Str.{IsUtf8}
 use Rattle.toml.specs.Data.{Members}
 use Rattle.toml.specs.Parse.{parse_document}
@@ -59,7 +59,7 @@ IsAnswer octets (Ok settings) = (document : Members) × IsDocument octets docume
 IsAnswer octets (Err Syntax) = (document : Members) → ¬ IsDocument octets document
 IsAnswer octets (Err fault) = (document : Members) × IsDocument octets document × IsFaultOf document fault
 
--- the same of a refusal, of which want of memory says nothing
-abbrev pub IsRefusal : List ℕ → SettingsError → Type 0
-IsRefusal octets (Fault fault) = IsAnswer octets (Err fault)
-IsRefusal octets NoMemory = Unit
+-- of a refusal by a fault; want of memory says nothing
+abbrev pub OnFault : SettingsError → (SettingsFault → Type 0) → Type 0
+OnFault (Fault fault) P = P fault
+OnFault NoMemory P = ⊤

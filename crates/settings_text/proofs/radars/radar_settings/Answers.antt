@@ -105,16 +105,16 @@ invariant_of-result c =
 pub returns : goal.returns
 returns c =
     (λ i. c.to_u8.ensures i
-      ∷ c.to_u8-2.ensures i
-      ∷ (kept32 c.to_i32.result _ (record { sfits = c.to_i32.type_inv }) c.to_i32.ensures) i
-      ∷ (kept32 c.to_i32-2.result _ (record { sfits = c.to_i32-2.type_inv }) c.to_i32-2.ensures) i
-      ∷ (kept16 c.to_i16.result _ (record { sfits = c.to_i16.type_inv }) c.to_i16.ensures) i
-      ∷ c.to_u16.ensures i
-      ∷ (kept16 c.to_i16-2.result _ (record { sfits = c.to_i16-2.type_inv }) c.to_i16-2.ensures) i
-      ∷ (kept16 c.to_i16-3.result _ (record { sfits = c.to_i16-3.type_inv }) c.to_i16-3.ensures) i
-      ∷ (kept16 c.to_i16-4.result _ (record { sfits = c.to_i16-4.type_inv }) c.to_i16-4.ensures) i
-      ∷ (kept16 c.to_i16-5.result _ (record { sfits = c.to_i16-5.type_inv }) c.to_i16-5.ensures) i
-      ∷ c.to_u16-2.ensures i
-      ∷ c.to_u16-3.ensures i
-      ∷ [])
+    ∷ c.to_u8-2.ensures i
+    ∷ (kept32 c.to_i32.result _ (record { sfits = c.to_i32.type_inv }) c.to_i32.ensures) i
+    ∷ (kept32 c.to_i32-2.result _ (record { sfits = c.to_i32-2.type_inv }) c.to_i32-2.ensures) i
+    ∷ (kept16 c.to_i16.result _ (record { sfits = c.to_i16.type_inv }) c.to_i16.ensures) i
+    ∷ c.to_u16.ensures i
+    ∷ (kept16 c.to_i16-2.result _ (record { sfits = c.to_i16-2.type_inv }) c.to_i16-2.ensures) i
+    ∷ (kept16 c.to_i16-3.result _ (record { sfits = c.to_i16-3.type_inv }) c.to_i16-3.ensures) i
+    ∷ (kept16 c.to_i16-4.result _ (record { sfits = c.to_i16-4.type_inv }) c.to_i16-4.ensures) i
+    ∷ (kept16 c.to_i16-5.result _ (record { sfits = c.to_i16-5.type_inv }) c.to_i16-5.ensures) i
+    ∷ c.to_u16-2.ensures i
+    ∷ c.to_u16-3.ensures i
+    ∷ [])
     ∙ sym (by_place 12 c.args.numbers.now c.told-numbers)
