@@ -1,7 +1,7 @@
 -- The entries of the array of radars, read one by one.
-use Rattle.std.proofs.Common.{◌≡◌, ◌∙◌, ℕ, zero, suc, ◌+◌, ◌<◌, ◌≤◌, List, [], ◌∷◌, ◌++◌, length, get_or, take, map, min, true, inl, inr, Option, Some, None, refl, ap, subst, sym, arith}
-use Rattle.std.specs.Prelude.{nat_lt, if◌then◌else◌}
-use Rattle.std.specs.List.{AllZip}
+use Rattle.std.proofs.Common.{◌≡◌, ◌∙◌, ℕ, zero, suc, ◌+◌, ◌<◌, List, [], ◌∷◌, ◌++◌, length, get_or, take, min, Bool, ◌&&◌, true, inl, inr, Option, Some, None, refl, ap, subst, sym, arith}
+use Rattle.std.specs.Prelude.{nat_lt}
+use Rattle.std.specs.List.{AllZip, list_all}
 use Rattle.std.proofs.lemmas.Bool.{lt-ltb, cases_lt}
 use Rattle.std.proofs.lemmas.List.{take_more, take_all, take-map, get_or-map, length-map}
 use Rattle.std.proofs.lemmas.Slice.Zip.{all_zipped_more, AllZip-long}
@@ -102,3 +102,8 @@ pub faults_of_front : (error : SettingsError) (values : List Value) → 0 < leng
     → OnFault error (λ fault. IsFirst fault (entries_faults (tables_of values)))
 faults_of_front (Fault fault) values some found = first_of_entries (tables_of values) fault (omega (arith, length-map values entry_of)) (rw (front_is values) at found)
 faults_of_front NoMemory values some found = tt
+
+-- a test of each entry, as the values have them
+pub all_entries : (test : Option Members → Bool) (values : List Value) → list_all test (tables_of values) ≡ list_all (λ value. test (entry_of value)) values
+all_entries test [] = refl
+all_entries test (value ∷ values) = ap (λ rest. test (entry_of value) && rest) (all_entries test values)

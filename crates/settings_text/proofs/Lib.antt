@@ -3,3 +3,4 @@ pub mod Names
 pub mod Ranges
 pub mod Reading
 pub mod Repeating
+pub mod Right

@@ -1,10 +1,11 @@
 -- Numbers that are within the ranges of their keys, place by place.
-use Rattle.std.proofs.Common.{◌≡◌, ℕ, zero, suc, ◌<◌, ℤ, pos, ◌≤ℤ◌, Bool, true, false, List, [], ◌∷◌, length, get_or, map, Option, Some, None, option_map, Ok, inl, inr, refl, rules, arith}
+use Rattle.std.proofs.Common.{◌≡◌, ℕ, zero, suc, ◌<◌, ℤ, pos, Bool, true, List, [], ◌∷◌, length, get_or, map, Option, Some, None, option_map, Ok, inl, inr, refl, rules, arith}
 use Rattle.std.specs.Prelude.{int_le}
 use Rattle.std.specs.List.{range_with_len, list_all}
 use Rattle.std.specs.Option.{ok_or, option_map_or}
 use Rattle.std.proofs.lemmas.Bool.{and_parts, cases_Bool}
 use Rattle.std.proofs.lemmas.List.FromFn.{fill_by_all}
+use Rattle.settings_text.specs.declared.keys.Name.TheVariants.{Sac}
 use Rattle.settings_text.specs.declared.keys.KeyRule.{KeyRule}
 use Rattle.settings_text.specs.declared.faults.SettingsFault.TheVariants.{Missing}
 use Rattle.settings_text.specs.Names.{text_of}
@@ -50,3 +51,7 @@ gives_within table (rule ∷ rules) [] h given = given
 gives_within table (rule ∷ rules) (number ∷ numbers) h given =
     let parts = and_parts (default_within rule) (list_all default_within rules) h in
     (number_within rule (option_map as_integer (get_member (text_of rule.name) table)) number parts.0 given.0, gives_within table rules numbers parts.1 given.1)
+
+-- a rule that no key has
+pub blank : KeyRule
+blank = record { number = 0; name = Sac; least = pos 0; most = pos 0; default = None }

@@ -1,7 +1,7 @@
 //! The settings as a site writes them: a TOML document, read to its values or to its first fault.
 #![tactic(auto)]
 
-// mod document;
+mod document;
 mod faults;
 mod keys;
 // mod laws;
@@ -12,7 +12,7 @@ mod tables;
 // #[cfg(test)]
 // mod tests;
 
-// pub use document::{MAX_OCTETS, read_settings};
+pub use document::{MAX_OCTETS, read_settings};
 pub use faults::{KeyPath, SettingsError, SettingsFault};
 pub use keys::{KeyRule, Name, RADAR_KEYS, SYSTEM_KEYS};
 // pub use laws::one_answer;

@@ -1,6 +1,6 @@
 //! Keys 8 to 19: the array of tables `radar`.
 ghost use Rattle.std.specs.Prelude.{◌≡◌, ◌≤◌, length, vec_len, Some, IfOk, IfErr, IfSome, IfNone};
-ghost use Rattle.std.specs.List.{AllZip};
+ghost use Rattle.std.specs.List.{AllZip, list_all};
 ghost use Rattle.toml.specs.Data.{as_table};
 ghost use Rattle.toml.specs.View.{view, table_view};
 ghost use Rattle.admission_log.specs.Sources.{HaveOwnSources};
@@ -12,7 +12,7 @@ ghost use Rattle.settings_text.specs.Answers.{IsFirst, OnFault, Repeats};
 use crate::faults::{KeyPath, SettingsError, SettingsFault};
 use crate::keys::RADAR_KEYS;
 use crate::narrow::{to_i16, to_i32, to_u8, to_u16};
-use crate::tables::{values_at, has_only, numbers};
+use crate::tables::{has_only, numbers, values_at};
 use admission_log::{MAX_RADARS, radar_of};
 use plot_geometry::RadarSettings;
 use std::alloc::Global;
@@ -135,12 +135,19 @@ fn entry_is_known(entry: &Value) -> bool
     }
 }
 
+// Whether no key of some entries is unknown.
+fn entries_are_known(entries: &[Value]) -> bool
+    ensures { result ≡ list_all (knows RADAR_KEYS) (tables_of entries.now) }
+{
+    entries.iter().all(|entry| entry_is_known(entry))
+}
+
 /// Whether no key of the radars is unknown.
 pub fn radars_are_known(document: &Table) -> bool
     ensures { result ≡ radars_known (radars_of (table_view document.now)) }
 {
     match values_at(document, "radar") {
-        Some(Some(entries)) => entries.iter().all(|entry| entry_is_known(entry)),
+        Some(Some(entries)) => entries_are_known(entries),
         _ => true,
     }
 }

@@ -1,11 +1,8 @@
-use Rattle.std.proofs.Common.{◌≡◌, ◌∙◌, ◌<◌, sym, subst, ap, min, take, length, rules, arith}
-use Rattle.std.specs.Prelude.{vec_len}
-use Rattle.std.specs.List.{AllZip}
+use Rattle.std.proofs.Common.{◌<◌, length, arith}
 use Rattle.std.proofs.lemmas.Bool.Decides.{nat_tests}
 use Rattle.std.proofs.lemmas.Result.{err_from_is_err_and}
 use Rattle.std.proofs.lemmas.List.{take_all, length-map}
-use Rattle.settings_text.specs.Documents.{IsRadar, tables_of, numbered_faults, entries_faults}
-use Rattle.settings_text.specs.Answers.{IsFirst, OnFault}
+use Rattle.settings_text.specs.Documents.{tables_of}
 use Rattle.settings_text.proofs.Entries.{entry_of, front_is, too_many_entries, radars_counted, faults_of_front}
 use Rattle.settings_text.proofs.radars.read_entries.Goals as goal
 

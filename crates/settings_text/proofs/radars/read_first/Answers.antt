@@ -1,4 +1,3 @@
-use Rattle.std.proofs.Common.{rules}
 use Rattle.std.proofs.lemmas.Result.{err_from_is_err_and}
 use Rattle.settings_text.proofs.Entries.{one_more_radar, first_value_fault}
 use Rattle.settings_text.proofs.radars.read_first.Goals as goal

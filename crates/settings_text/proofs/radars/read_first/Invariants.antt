@@ -1,4 +1,4 @@
-use Rattle.std.proofs.Common.{◌≡◌, length, take}
+use Rattle.std.proofs.Common.{take}
 use Rattle.std.specs.List.{AllZip}
 use Rattle.settings_text.specs.Documents.{IsRadar, tables_of}
 use Rattle.settings_text.proofs.radars.read_first.Given as goal
