@@ -9,8 +9,9 @@ mod narrow;
 mod radars;
 mod system;
 mod tables;
-// #[cfg(test)]
-// mod tests;
+#[cfg(test)]
+mod tests;
+mod texts;
 
 pub use document::{MAX_OCTETS, read_settings};
 pub use faults::{KeyPath, SettingsError, SettingsFault};
