@@ -60,6 +60,12 @@ abbrev pub IsAnswer : List ℕ → Result Settings SettingsFault → Type 0
 IsAnswer octets (Ok settings) = (document : Members) × IsDocument octets document × IsSettings document settings
 IsAnswer octets (Err fault) = IsFault octets fault
 
+-- octets have one answer, and no other
+pub record HasOneAnswer (octets : List ℕ) : Type 0 where
+  pub answer : Result Settings SettingsFault
+  pub is_answer : IsAnswer octets answer
+  pub only : (other : Result Settings SettingsFault) → IsAnswer octets other → other ≡ answer
+
 -- of a refusal by a fault; want of memory says nothing
 abbrev pub OnFault : SettingsError → (SettingsFault → Type 0) → Type 0
 OnFault (Fault fault) P = P fault

@@ -4,7 +4,7 @@
 mod document;
 mod faults;
 mod keys;
-// mod laws;
+mod laws;
 mod narrow;
 mod radars;
 mod system;
@@ -16,4 +16,4 @@ mod texts;
 pub use document::{MAX_OCTETS, read_settings};
 pub use faults::{KeyPath, SettingsError, SettingsFault};
 pub use keys::{KeyRule, Name, RADAR_KEYS, SYSTEM_KEYS};
-// pub use laws::one_answer;
+pub use laws::one_answer;
