@@ -1,6 +1,6 @@
 -- Octets have one answer at most.
-use Rattle.std.proofs.Common.{◌≡◌, ◌∙◌, ℕ, zero, suc, ◌<◌, ◌≤◌, ℤ, pos, neg_ℤ, ◌≤ℤ◌, Bool, true, false, List, [], ◌∷◌, length, get_or, take, Option, Some, None, Result, Ok, Err, inl, inr, refl, ap, sym, subst, rules, arith}
-use Rattle.std.specs.Prelude.{unsigned_abs, slice_get}
+use Rattle.std.proofs.Common.{◌≡◌, ◌∙◌, ℕ, zero, suc, ◌<◌, ◌≤◌, ℤ, pos, neg_ℤ, ◌≤ℤ◌, List, [], ◌∷◌, length, get_or, take, Option, Some, None, Result, Ok, Err, inl, inr, refl, ap, sym, subst, rules, arith}
+use Rattle.std.specs.Prelude.{unsigned_abs, slice_get, IfOk, IfErr}
 use Rattle.std.specs.List.{AllZip}
 use Rattle.std.proofs.Props.{props}
 use Rattle.std.proofs.lemmas.Bool.{cases_lt, true≢false}
@@ -15,10 +15,12 @@ use Rattle.settings_text.specs.declared.keys.KeyRule.{KeyRule}
 use Rattle.settings_text.specs.declared.keys.TheConstants.{SYSTEM_KEYS, RADAR_KEYS}
 use Rattle.settings_text.specs.declared.faults.SettingsFault.{SettingsFault}
 use Rattle.settings_text.specs.declared.faults.SettingsFault.TheVariants.{Duplicate}
+use Rattle.settings_text.specs.declared.faults.SettingsError.{SettingsError}
+use Rattle.settings_text.specs.declared.faults.SettingsError.TheVariants.{Fault, NoMemory}
 use Rattle.settings_text.specs.Keys.{Gives}
 use Rattle.settings_text.specs.Numbers.{system_numbers, radar_numbers}
-use Rattle.settings_text.specs.Documents.{number_faults, is_known, IsRadar, SystemGives, AreRadars}
-use Rattle.settings_text.specs.Answers.{IsDocument, IsSettings, IsFaultOf, wrong_number, unknown_key, duplicate, IsFault, no_document, in_document, IsAnswer, Repeats, HasDuplicate, IsFirst}
+use Rattle.settings_text.specs.Documents.{number_faults, IsRadar, SystemGives, AreRadars}
+use Rattle.settings_text.specs.Answers.{IsDocument, IsSettings, IsFaultOf, wrong_number, unknown_key, duplicate, IsFault, no_document, in_document, IsAnswer, Repeats, HasDuplicate, IsFirst, OnFault, Agrees}
 use Rattle.settings_text.proofs.Right.{numbers_right}
 
 -- radars with the same numbers are one, since each of their ranges has one proof
@@ -270,3 +272,10 @@ only_answer octets (Ok s) (Ok t) g h =
 only_answer octets (Ok s) (Err f) g h = absurd (settings_or_fault octets g.0 s f g.1 g.2 h)
 only_answer octets (Err f) (Ok t) g h = absurd (settings_or_fault octets h.0 t f h.1 h.2 g)
 only_answer octets (Err f) (Err k) g h = ap Err (one_fault octets f k g h)
+
+-- so a result that is an answer is the only one
+pub agrees : (octets : List ℕ) (result : Result Settings SettingsError) (answer : Result Settings SettingsFault) → IfOk result (λ settings. IsAnswer octets (Ok settings))
+    → IfErr result (λ error. OnFault error (λ fault. IsAnswer octets (Err fault))) → IsAnswer octets answer → Agrees result answer
+agrees octets (Ok settings) answer ok err given = only_answer octets answer (Ok settings) given ok
+agrees octets (Err (Fault fault)) answer ok err given = only_answer octets answer (Err fault) given err
+agrees octets (Err NoMemory) answer ok err given = tt

@@ -1,19 +1,15 @@
 -- Octets have an answer: settings or a fault.
-use Rattle.std.proofs.Common.{◌≡◌, ◌∙◌, ℕ, zero, suc, ◌+◌, ◌<◌, ◌≤◌, ℤ, pos, negsuc, ◌≤ℤ◌, Bool, true, false, List, [], ◌∷◌, ◌++◌, length, get_or, take, map, Option, Some, None, option_map, Result, Ok, Err, inl, inr, ◌⊎◌, refl, ap, sym, subst, rules, arith, lit<}
-use Rattle.std.specs.Prelude.{nat_lt}
-use Rattle.std.specs.List.{AllZip, range_with_len}
-use Rattle.std.specs.Result.{result_err}
+use Rattle.std.proofs.Common.{◌≡◌, ◌∙◌, ℕ, zero, suc, ◌+◌, ◌<◌, ◌≤◌, ℤ, pos, negsuc, ◌≤ℤ◌, true, List, [], ◌∷◌, ◌++◌, length, get_or, take, Option, Some, None, Result, Ok, Err, inl, inr, ◌⊎◌, refl, ap, sym, subst, arith, lit<}
+use Rattle.std.specs.List.{AllZip}
 use Rattle.std.specs.Str.{IsUtf8, is_utf8}
 use Rattle.std.proofs.lemmas.Bool.{cases_Bool, cases_lt, lt-ltb, true≢false}
 use Rattle.std.proofs.lemmas.Option.{none-some}
 use Rattle.std.proofs.lemmas.Int.{ints}
 use Rattle.std.proofs.lemmas.List.{take_all, length-take, get_or_default}
-use Rattle.std.proofs.lemmas.List.Quantifiers.{position-Some}
 use Rattle.std.proofs.lemmas.Slice.Zip.{AllZip-long}
 use Rattle.std.proofs.lemmas.Str.{IsUtf8-from_is_utf8, is_utf8-from_IsUtf8}
 use Rattle.toml.specs.Data.{Members}
 use Rattle.toml.specs.Parse.{parse_document}
-use Rattle.track_life.specs.declared.settings.LifeSettings.{LifeSettings}
 use Rattle.plot_geometry.specs.declared.radars.RadarSettings.{RadarSettings}
 use Rattle.admission_log.specs.declared.settings.Settings.{Settings}
 use Rattle.admission_log.specs.Sources.{HaveOwnSources, radar_of}
@@ -22,9 +18,9 @@ use Rattle.settings_text.specs.declared.keys.KeyRule.{KeyRule}
 use Rattle.settings_text.specs.declared.keys.TheConstants.{SYSTEM_KEYS, RADAR_KEYS}
 use Rattle.settings_text.specs.declared.faults.SettingsFault.{SettingsFault}
 use Rattle.settings_text.specs.declared.faults.SettingsFault.TheVariants.{Syntax, Unknown, Duplicate}
-use Rattle.settings_text.specs.Keys.{Flaw, path, number_at, Gives, fault_at, faults, is_within, AreWithin}
+use Rattle.settings_text.specs.Keys.{Flaw, number_at, Gives, faults, is_within, AreWithin}
 use Rattle.settings_text.specs.Numbers.{system_numbers, radar_numbers}
-use Rattle.settings_text.specs.Documents.{system_of, radars_of, system_faults, entry_faults, numbered_faults, entries_faults, radars_faults, number_faults, is_known, IsRadar, SystemGives, AreRadars}
+use Rattle.settings_text.specs.Documents.{system_of, radars_of, system_faults, numbered_faults, entries_faults, radars_faults, number_faults, is_known, IsRadar, SystemGives, AreRadars}
 use Rattle.settings_text.specs.Answers.{IsDocument, IsSettings, IsFaultOf, wrong_number, unknown_key, duplicate, no_document, in_document, IsAnswer, Repeats}
 use Rattle.settings_text.proofs.Ranges.{blank, range_at, by_place, gives_within}
 use Rattle.settings_text.proofs.Repeating.{own_more, repeats_at}

@@ -70,3 +70,8 @@ pub record HasOneAnswer (octets : List ℕ) : Type 0 where
 abbrev pub OnFault : SettingsError → (SettingsFault → Type 0) → Type 0
 OnFault (Fault fault) P = P fault
 OnFault NoMemory P = ⊤
+
+-- a result is that answer, unless memory is wanting
+abbrev pub Agrees : Result Settings SettingsError → Result Settings SettingsFault → Type 0
+Agrees (Ok settings) answer = answer ≡ Ok settings
+Agrees (Err error) answer = OnFault error (λ fault. answer ≡ Err fault)

@@ -1,12 +1,14 @@
 //! The whole document.
-ghost use Rattle.std.specs.Prelude.{◌≡◌, ℕ, Ok, Err, IfOk, IfErr};
+ghost use Rattle.std.specs.Prelude.{◌≡◌, ℕ, Result, Ok, Err, IfOk, IfErr};
 ghost use Rattle.toml.specs.Data.{Members};
 ghost use Rattle.toml.specs.View.{table_view};
+ghost use Rattle.admission_log.specs.declared.settings.Settings.{Settings};
+ghost use Rattle.settings_text.specs.declared.faults.SettingsFault.{SettingsFault};
 ghost use Rattle.settings_text.specs.declared.faults.SettingsFault.TheVariants.{Syntax};
 ghost use Rattle.std.specs.List.{list_all};
 ghost use Rattle.settings_text.specs.Keys.{names};
 ghost use Rattle.settings_text.specs.Documents.{is_known, is_part};
-ghost use Rattle.settings_text.specs.Answers.{IsDocument, IsSettings, IsFaultOf, IsAnswer, OnFault};
+ghost use Rattle.settings_text.specs.Answers.{IsDocument, IsSettings, IsFaultOf, IsAnswer, OnFault, Agrees};
 
 use crate::faults::{SettingsError, SettingsFault};
 use crate::radars::{radars_are_known, read_radars, repeated};
@@ -24,6 +26,9 @@ pub const MAX_OCTETS: usize = 65_536;
 pub fn read_settings(alloc: Global, bytes: &[u8]) -> Result<Settings, SettingsError>
     ensures ok { IfOk result (λ settings. IsAnswer bytes.now (Ok settings)) }
     ensures fault { IfErr result (λ error. OnFault error (λ fault. IsAnswer bytes.now (Err fault))) }
+
+    // The other direction, unless memory is wanting.
+    ensures exact { (answer : Result Settings SettingsFault) → IsAnswer bytes.now answer → Agrees result answer }
 {
     let document = parse(alloc, bytes)?;
     read_document(alloc, &document)
