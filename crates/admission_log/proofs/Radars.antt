@@ -18,6 +18,12 @@ radar_found (first ∷ others) sac sic n found =
     let tested = and_parts _ _ at.1 in
     subst (λ o. IsSomeAnd o (HasSource sac sic)) (sym (slice_get-get_or (first ∷ others) n first at.0)) (eqb-true _ _ tested.0, eqb-true _ _ tested.1)
 
+-- a place that was found is that of a radar
+pub found_within : (radars : List RadarSettings) (sac sic n : ℕ) → radar_of radars sac sic ≡ Some n → n < length radars
+unfolding radar_of
+found_within [] sac sic n found = absurd (search rules)
+found_within (first ∷ others) sac sic n found = (position-Some (λ radar. radar.sac == sac && radar.sic == sic) (first ∷ others) n first found).0
+
 -- where the search found none, none passes
 none_passes : {X : Type 0} (p : X → Bool) (i : ℕ) (xs : List X) → position_from p i xs ≡ None → (k : ℕ) (d : X) → k < length xs → p (get_or xs k d) ≡ false
 none_passes p i [] none k d h = absurd (omega arith)
