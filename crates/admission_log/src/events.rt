@@ -1,5 +1,3 @@
-ghost use Rattle.std.specs.Prelude.{◌≡◌};
-
 use asterix_frame::BlocksError;
 use cat048_in::NotPlot;
 use std::alloc::Global;

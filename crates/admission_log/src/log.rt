@@ -1,4 +1,4 @@
-ghost use Rattle.std.specs.Prelude.{◌≡◌, ◌+◌, ◌<◌, ◌≤◌, ◌^◌, ℕ, List, [], length, map, Err, IfOk, OnOk, OnErr};
+ghost use Rattle.std.specs.Prelude.{◌≡◌, ◌+◌, ◌<◌, ◌≤◌, ◌^◌, ℕ, List, [], length, Err, IfOk, OnOk, OnErr};
 ghost use Rattle.asterix_frame.specs.declared.block.Malformed.{Malformed};
 ghost use Rattle.asterix_frame.specs.Answers.{IfMalformed, Reads, Refuses};
 ghost use Rattle.asterix_frame.specs.Datagrams.{Content, IsDatagram, DatagramFault};
