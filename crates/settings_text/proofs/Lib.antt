@@ -1,0 +1,8 @@
+pub mod Entries
+pub mod Names
+pub mod OnlyAnswer
+pub mod Ranges
+pub mod Reading
+pub mod Repeating
+pub mod Right
+pub mod SomeAnswer

@@ -1,0 +1,6 @@
+pub mod Answers
+pub mod Documents
+pub mod Keys
+pub mod Names
+pub mod Numbers
+pub mod Texts
