@@ -1,0 +1,4 @@
+pub mod Sets
+pub mod Duality
+pub mod First
+pub mod Signed
