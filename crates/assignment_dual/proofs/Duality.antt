@@ -134,5 +134,5 @@ tight_sum (row ∷ rows) (x ∷ xs) (u ∷ us) ws g f t = omega (arith, sum-cons
 pub balances : (rows : List Row) (xs : List (Option ℕ)) (us ws : List ℕ) → IsPairing rows xs → Feasible rows us ws → AllTight rows xs us ws → ((t : ℕ) → Misses t xs → get_or ws t 0 ≡ 0) → Balances rows xs us ws
 balances rows xs us ws p f t z = record {
   feasible = f;
-  equal = omega (arith, tight_sum rows xs us ws p.gates f t, taken_whole xs ws p.once z)
+  equal = omega (arith, tight_sum rows xs us ws p.gates f t, taken_whole xs ws p.once z);
 }

@@ -70,13 +70,13 @@ against row rows x n xs (y ∷ ys) f l p e =
     elim (entry_order x y) [
       | inl h ↦ elim (le_cases n (entry_cost row y + cost rows ys) le) [ inl j ↦ inl (omega (arith, e, j)) | inr j ↦ inr (e ∙ j, inl h) ]
       | inr o ↦ elim o [
-          | inl q ↦ elim (l.first ys (subst (λ (z : Option ℕ). IsPairing (rest z rows) ys) (sym q) t.0)) [
-              | inl j ↦ inl (let a : cost (rest x rows) ys ≡ cost rows ys = ap (λ (z : Option ℕ). cost (rest z rows) ys) q ∙ t.1 in let d : entry_cost row x ≡ entry_cost row y = ap (entry_cost row) q in omega (arith, j, b.1))
-              | inr j ↦ inr ((let a : cost (rest x rows) ys ≡ cost rows ys = ap (λ (z : Option ℕ). cost (rest z rows) ys) q ∙ t.1 in let d : entry_cost row x ≡ entry_cost row y = ap (entry_cost row) q in omega (arith, j.0, b.1)), inr (q, j.1))
-              ]
-          | inr h ↦ inl (omega (arith, e, t.1, f.earlier y p.gates.0 h ys t.0))
-          ]
+        | inl q ↦ elim (l.first ys (subst (λ (z : Option ℕ). IsPairing (rest z rows) ys) (sym q) t.0)) [
+          | inl j ↦ inl (let a : cost (rest x rows) ys ≡ cost rows ys = ap (λ (z : Option ℕ). cost (rest z rows) ys) q ∙ t.1 in let d : entry_cost row x ≡ entry_cost row y = ap (entry_cost row) q in omega (arith, j, b.1))
+          | inr j ↦ inr ((let a : cost (rest x rows) ys ≡ cost rows ys = ap (λ (z : Option ℕ). cost (rest z rows) ys) q ∙ t.1 in let d : entry_cost row x ≡ entry_cost row y = ap (entry_cost row) q in omega (arith, j.0, b.1)), inr (q, j.1))
+        ]
+        | inr h ↦ inl (omega (arith, e, t.1, f.earlier y p.gates.0 h ys t.0))
       ]
+    ]
 
 -- the first choice and the first pairing of the rest are the first pairing
 pub first_choice : (row : Row) (rows : List Row) (x : Option ℕ) (n : ℕ) (xs : List (Option ℕ)) → IsFirstChoice row rows x n → IsLeast (rest x rows) xs → IsLeast (row ∷ rows) (x ∷ xs)
@@ -85,5 +85,5 @@ first_choice row rows x n xs f l =
     let e : entry_cost row x + cost (rest x rows) xs ≡ n = f.reached xs l.pairing (least_cost l) in
     record {
       pairing = b.0;
-      first = λ ys p. against row rows x n xs ys f l p (omega (arith, e, b.1))
+      first = λ ys p. against row rows x n xs ys f l p (omega (arith, e, b.1));
     }

@@ -115,13 +115,15 @@ join_once [] (row ∷ rows) xs l m d a b p q = absurd l
 join_once (s ∷ sides) [] xs l m d a b p q = absurd l
 join_once (s ∷ sides) (row ∷ rows) [] l m d a b p q = absurd m
 join_once (true ∷ sides) (row ∷ rows) (None ∷ xs) l m d a b p q = join_once sides rows xs l m (λ t. rest (row t) _ _ (d t)) a.1 b p q
-join_once (true ∷ sides) (row ∷ rows) (Some t ∷ xs) l m d a b p q =
-    (join_misses t sides xs (same_lengths sides rows xs l m) p.0 (gates_none_misses t (part false sides rows) (part false sides xs) (other row t _ _ a.0 (d t)) b),
-     join_once sides rows xs l m (λ t. rest (row t) _ _ (d t)) a.1 b p.1 q)
+join_once (true ∷ sides) (row ∷ rows) (Some t ∷ xs) l m d a b p q = (
+  join_misses t sides xs (same_lengths sides rows xs l m) p.0 (gates_none_misses t (part false sides rows) (part false sides xs) (other row t _ _ a.0 (d t)) b),
+  join_once sides rows xs l m (λ t. rest (row t) _ _ (d t)) a.1 b p.1 q,
+)
 join_once (false ∷ sides) (row ∷ rows) (None ∷ xs) l m d a b p q = join_once sides rows xs l m (λ t. rest_right (row t) _ _ (d t)) a b.1 p q
-join_once (false ∷ sides) (row ∷ rows) (Some t ∷ xs) l m d a b p q =
-    (join_misses t sides xs (same_lengths sides rows xs l m) (gates_none_misses t (part true sides rows) (part true sides xs) (other_right row t _ _ b.0 (d t)) a) q.0,
-     join_once sides rows xs l m (λ t. rest_right (row t) _ _ (d t)) a b.1 p q.1)
+join_once (false ∷ sides) (row ∷ rows) (Some t ∷ xs) l m d a b p q = (
+  join_misses t sides xs (same_lengths sides rows xs l m) (gates_none_misses t (part true sides rows) (part true sides xs) (other_right row t _ _ b.0 (d t)) a) q.0,
+  join_once sides rows xs l m (λ t. rest_right (row t) _ _ (d t)) a b.1 p q.1,
+)
 
 join_order : (sides : List Bool) (xs ys : List (Option ℕ)) → SameLength sides xs → SameLength xs ys
     → NotAfter (part true sides xs) (part true sides ys) → NotAfter (part false sides xs) (part false sides ys) → NotAfter xs ys
@@ -136,7 +138,7 @@ sums_order : (a b c d x y : ℕ) (P Q R : Type 0) → x ≡ a + b → y ≡ c + 
 sums_order a b c d x y P Q R e f h k j = elim h [
   | inl p ↦ elim k [ inl q ↦ inl (omega arith) | inr q ↦ inl (omega (arith, q.0)) ]
   | inr p ↦ elim k [ inl q ↦ inl (omega (arith, p.0)) | inr q ↦ inr (omega (arith, p.0, q.0), j p.1 q.1) ]
-  ]
+]
 
 flip_length : {X Y : Type 0} (xs : List X) (ys : List Y) → SameLength xs ys → SameLength ys xs
 flip_length [] [] h = tt
@@ -167,12 +169,12 @@ two_sets sides rows xs n m d a b =
     record {
       pairing = record {
         gates = join_gates sides rows xs l k a.pairing.gates b.pairing.gates;
-        once = join_once sides rows xs l k d a.pairing.gates b.pairing.gates a.pairing.once b.pairing.once
+        once = join_once sides rows xs l k d a.pairing.gates b.pairing.gates a.pairing.once b.pairing.once;
       };
       first = λ ys h.
-        let j : SameLength rows ys = gates_length rows ys h.gates in
-        sums_order _ _ _ _ _ _ _ _ _ (costs_add sides rows xs l k) (costs_add sides rows ys l j)
+          let j : SameLength rows ys = gates_length rows ys h.gates in
+          sums_order _ _ _ _ _ _ _ _ _ (costs_add sides rows xs l k) (costs_add sides rows ys l j)
           (a.first (part true sides ys) (part_pairing true sides rows ys h))
           (b.first (part false sides ys) (part_pairing false sides rows ys h))
-          (join_order sides xs ys (same_lengths sides rows xs l k) (through_length xs rows ys (flip_length rows xs k) j))
+          (join_order sides xs ys (same_lengths sides rows xs l k) (through_length xs rows ys (flip_length rows xs k) j));
     }

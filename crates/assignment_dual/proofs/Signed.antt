@@ -52,18 +52,18 @@ pub row_tells : (P : ℕ → ℕ → ℕ → Type 0) (edges : List Edge) (plot t
 row_tells P [] plot track c h e = absurd (cc)
 row_tells P (e ∷ edges) plot track c h q = elim (cases_eq e.0 plot) [
   | inl a ↦ elim (cases_eq e.1 track) [
-      | inl b ↦
-          let z : row_of (e ∷ edges) plot track ≡ Some e.2 = ap (λ (o : Bool). cond (o && (e.1 == track)) (Some e.2) (row_of edges plot track)) (eq-eqb e.0 plot a) ∙ ap (λ (o : Bool). cond o (Some e.2) (row_of edges plot track)) (eq-eqb e.1 track b) in
-          let k : e.2 ≡ c = cc in
-          subst (λ (i : ℕ). P i track c) a (subst (λ (i : ℕ). P e.0 i c) b (subst (P e.0 e.1) k (h 0 (omega arith))))
-      | inr b ↦
-          let z : row_of (e ∷ edges) plot track ≡ row_of edges plot track = ap (λ (o : Bool). cond (o && (e.1 == track)) (Some e.2) (row_of edges plot track)) (eq-eqb e.0 plot a) ∙ ap (λ (o : Bool). cond o (Some e.2) (row_of edges plot track)) (ne_eqb e.1 track b) in
-          row_tells P edges plot track c (λ i l. h (suc i) (omega (arith, l))) (sym z ∙ q)
-      ]
+    | inl b ↦
+        let z : row_of (e ∷ edges) plot track ≡ Some e.2 = ap (λ (o : Bool). cond (o && (e.1 == track)) (Some e.2) (row_of edges plot track)) (eq-eqb e.0 plot a) ∙ ap (λ (o : Bool). cond o (Some e.2) (row_of edges plot track)) (eq-eqb e.1 track b) in
+        let k : e.2 ≡ c = cc in
+        subst (λ (i : ℕ). P i track c) a (subst (λ (i : ℕ). P e.0 i c) b (subst (P e.0 e.1) k (h 0 (omega arith))))
+    | inr b ↦
+        let z : row_of (e ∷ edges) plot track ≡ row_of edges plot track = ap (λ (o : Bool). cond (o && (e.1 == track)) (Some e.2) (row_of edges plot track)) (eq-eqb e.0 plot a) ∙ ap (λ (o : Bool). cond o (Some e.2) (row_of edges plot track)) (ne_eqb e.1 track b) in
+        row_tells P edges plot track c (λ i l. h (suc i) (omega (arith, l))) (sym z ∙ q)
+  ]
   | inr a ↦
       let z : row_of (e ∷ edges) plot track ≡ row_of edges plot track = ap (λ (o : Bool). cond (o && (e.1 == track)) (Some e.2) (row_of edges plot track)) (ne_eqb e.0 plot a) in
       row_tells P edges plot track c (λ i l. h (suc i) (omega (arith, l))) (sym z ∙ q)
-  ]
+]
 
 pub row_at_place : (p : Problem) (i : ℕ) → i < p.plots → get_or (rows_of p) i (λ t. None) ≡ row_of p.edges i
 row_at_place p i h = get_or-map-range_with_len (row_of p.edges) 0 p.plots i i (λ t. None) h (omega arith)
@@ -100,11 +100,12 @@ feasible_signed {p} {xs} {us} {vs} h = feasible_from (rows_of p) (map above us) 
     let k : i < p.plots = subst (λ (n : ℕ). i < n) (count_rows p) l in
     let il : i < length us = omega (arith, k, h.plot_prices) in
     let row : get_or (rows_of p) i (λ t. None) ≡ row_of p.edges i = row_at_place p i k in
-    subst (λ (r : Row). RowFeasible r (get_or (map above us) i 0) (map below vs)) (sym row)
-      (subst (λ (n : ℕ). n ≤ MISS) (sym (above_at us i)) (above_within (price_at us i) MISS (h.below_miss i (pos 0) il)),
-       λ t c e.
-         let m : (price_at us i +ℤ price_at vs t) ≤ℤ pos c = row_tells (λ a b d. (price_at us a +ℤ price_at vs b) ≤ℤ pos d) p.edges i t c (λ j q. h.below_cost j (0, 0, 0) q) e in
-         omega (arith, above_at us i, below_of vs t, above_sum (price_at us i) (price_at vs t) c m)))
+    subst (λ (r : Row). RowFeasible r (get_or (map above us) i 0) (map below vs)) (sym row) (
+      subst (λ (n : ℕ). n ≤ MISS) (sym (above_at us i)) (above_within (price_at us i) MISS (h.below_miss i (pos 0) il)),
+      λ t c e.
+          let m : (price_at us i +ℤ price_at vs t) ≤ℤ pos c = row_tells (λ a b d. (price_at us a +ℤ price_at vs b) ≤ℤ pos d) p.edges i t c (λ j q. h.below_cost j (0, 0, 0) q) e in
+          omega (arith, above_at us i, below_of vs t, above_sum (price_at us i) (price_at vs t) c m),
+    ))
 
 pub no_cheaper_signed : {p : Problem} {xs ys : List (Option ℕ)} {us vs : List ℤ} → Proves p xs us vs → IsPairing (rows_of p) ys → cost (rows_of p) xs ≤ cost (rows_of p) ys
 no_cheaper_signed {p} {xs} {ys} {us} {vs} h k =

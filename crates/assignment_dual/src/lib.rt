@@ -8,8 +8,16 @@
 #![tactic(auto)]
 
 mod costs;
+mod fix;
+mod graph;
 mod laws;
+mod place;
+mod raise;
+mod search;
 mod solving;
+#[cfg(test)]
+mod tests;
+mod tie;
 
 pub use costs::{Costs, Solved};
 pub use laws::{disjoint_sets, proven_least};
