@@ -20,6 +20,15 @@ pub struct Node {
     pub from: usize,
 }
 
+/// The mate of a node's vertex.
+fn mate_of(mates: &[usize], tree: &[Node], i: usize) -> usize
+    requires i { i < length tree.now }
+    requires within { vertex_at tree.now i < length mates.now }
+    ensures { result ≡ mate_at mates.now tree.now i }
+{
+    mates[tree[i].vertex]
+}
+
 /// Where the arc k of x leads, and how much more the two prices may be together.
 pub fn slack(graph: &Graph, prices: &[u32], x: usize, k: usize) -> (usize, u32)
     requires graph { IsGraph graph.now (length prices.now) }
@@ -80,7 +89,7 @@ fn sweep(
         (ArePaired mates.now tree.new.items (length tree.new.items) × IsSwept graph.now prices.now seen.new (mate_at mates.now tree.old.items at))
         (λ e. IsEnd prices.now mates.now tree.new.items e)) }
 {
-    let x = mates[tree[at].vertex];
+    let x = mate_of(mates, tree, at);
     for k in graph.first[x]..graph.first[x + 1] {
         if let Some(y) = opens(graph, prices, seen, x, k) {
             seen[y] = true;
@@ -120,7 +129,7 @@ fn grow(
 {
     let mut next = 0;
     'nodes: while next < tree.len() {
-        if prices[mates[tree[next].vertex]] == ALONE {
+        if prices[mate_of(mates, tree, next)] == ALONE {
             return Ok(Some(next));
         }
         if let Some(end) = sweep(graph, prices, mates, seen, tree, next)? {
@@ -190,10 +199,10 @@ pub fn reach(
     part(mates, tree[end].vertex);
     let mut at = end;
     'path: while at > 0 {
-        let before = tree[at].from;
-        let mate = mates[tree[before].vertex];
-        take(mates, tree[at].vertex, mate);
-        at = before;
+        let node = tree[at];
+        let mate = mate_of(mates, tree, node.from);
+        take(mates, node.vertex, mate);
+        at = node.from;
     }
     Ok(true)
 }
