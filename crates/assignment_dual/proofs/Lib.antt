@@ -5,3 +5,4 @@ pub mod Signed
 pub mod Columns
 pub mod Turns
 pub mod Trees
+pub mod Paths

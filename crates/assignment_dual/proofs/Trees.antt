@@ -29,7 +29,7 @@ push_cases tree a P old new i h = elim (cases_lt i (length tree)) [
   ]
 
 -- the root is no vertex that is seen
-root_apart : {g : Graph} {n : ℕ} {qs ms : List ℕ} {seen : List Bool} {tree : List Node} {x : ℕ} → IsSearchTree g n qs ms seen tree x → (i : ℕ) → 0 < i → i < length tree → vertex_at tree i ≢ x
+pub root_apart : {g : Graph} {n : ℕ} {qs ms : List ℕ} {seen : List Bool} {tree : List Node} {x : ℕ} → IsSearchTree g n qs ms seen tree x → (i : ℕ) → 0 < i → i < length tree → vertex_at tree i ≢ x
 root_apart t i p h e = across_differ (t.across.across _ (t.marked i p h)) (sym e)
 
 -- the mate of a node stands on the root's side
