@@ -6,3 +6,5 @@ pub mod Columns
 pub mod Turns
 pub mod Trees
 pub mod Paths
+pub mod Shifts
+pub mod Adding
