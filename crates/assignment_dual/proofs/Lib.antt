@@ -8,3 +8,4 @@ pub mod Trees
 pub mod Paths
 pub mod Shifts
 pub mod Adding
+pub mod Resting
