@@ -33,7 +33,7 @@ back_gates s (row ∷ rows) (Some t ∷ ys) g =
     let d : t ≢ s = λ e. absurd (let z : is_some (without (Some s) row t) ≡ false = ap is_some (without_taken s row t e) in let y : is_some (without (Some s) row t) ≡ true = g.0 in cc) in
     ((sym (ap is_some (without_other s row t d)) ∙ g.0, (back_gates s rows ys g.1).0), ((λ e. d (cc)), (back_gates s rows ys g.1).1))
 
-rest_none : (rows : List Row) → rest None rows ≡ rows
+pub rest_none : (rows : List Row) → rest None rows ≡ rows
 rest_none [] = refl
 rest_none (row ∷ rows) = ap (λ (r : List Row). row ∷ r) (rest_none rows)
 

@@ -9,3 +9,8 @@ pub mod Paths
 pub mod Shifts
 pub mod Adding
 pub mod Resting
+pub mod Rests
+pub mod Fixing
+pub mod Value
+pub mod Choices
+pub mod Candidates

@@ -28,7 +28,7 @@ pub out_priced : {g : Graph} {n : ℕ} {qs ms new_q new_m : List ℕ} {x y : ℕ
 out_priced {g} {n} {qs} {ms} {new_q} {new_m} {x} {y} pr p = record {
   count = p.q_count;
   alone = λ v. omega (arith, lower p v, pr.alone v);
-  arcs = λ v k h a. omega (arith, lower p v, lower p (to_of g k), pr.arcs v k h a)
+  arcs = λ v k h a. omega (arith, lower p v, lower p (to_of g k), pr.arcs v k h a);
 }
 
 pub out_mates : {g : Graph} {n : ℕ} {qs ms new_q new_m : List ℕ} {x y : ℕ} → AreMates g n qs ms → x < n → y ≡ get_or ms x 0 → AreOut n qs ms new_q new_m x y → AreMates g n new_q new_m
@@ -44,14 +44,14 @@ out_alone : {g : Graph} {n : ℕ} {qs ms new_q new_m : List ℕ} {gone : List Bo
 out_alone {g} {n} {qs} {ms} {new_q} {new_m} {gone} {x} {y} r p v h i j e = elim (cases_Bool (get_or gone v false)) [
   | inl k ↦ inr (k, p.prices v i ∙ (r.out v h k).1)
   | inr k ↦ inl (k, p.prices v i ∙ r.full v h k (sym (p.others v i j) ∙ e))
-  ]
+]
 
 pub out_pay : {g : Graph} {n : ℕ} {qs ms new_q new_m : List ℕ} {gone : List Bool} {x y : ℕ} → AreResting g n qs ms gone → AreOut n qs ms new_q new_m x y → OthersPay n new_q new_m y
 out_pay {g} {n} {qs} {ms} {new_q} {new_m} {gone} {x} {y} r p = record {
   pay = λ v h j e. elim (cases_eq v x) [
     | inl q ↦ inr (ap (λ (o : ℕ). get_or new_q o 0) q ∙ p.price)
     | inr i ↦ elim (out_alone r p v h i j e) [ inl a ↦ inl a.1 | inr a ↦ inr a.1 ]
-    ]
+  ];
 }
 
 -- x is out and y has another place
@@ -70,14 +70,14 @@ rests_without {g} {n} {qs} {ms} {mid_q} {mid_m} {new_q} {new_m} {gone} {x} {y} r
         let z : get_or mid_q v 0 ≡ 0 = p.prices v i ∙ (r.out v h k').1 in
         let o : (get_or new_m v 0 ≡ v) × (get_or new_q v 0 ≡ get_or mid_q v 0) = st.out v h vy (p.others v i vy ∙ (r.out v h k').0) (λ q. omega (arith, q, z)) in
         (o.0, o.1 ∙ z)
-    ];
+  ];
   full = λ v h k e.
-    let i : v ≢ x = λ q. false_true (ap (λ (o : ℕ). get_or (set gone x true) o false) q ∙ get_or-set_same gone x true false (omega (arith, hx, l))) k in
-    let k' : get_or gone v false ≡ false = sym (gone_before gone x v true i) ∙ k in
-    elim (st.alone v h e) [
-      | inl q ↦ q
-      | inr b ↦ b.2 ∙ p.prices v i ∙ r.full v h k' (sym (p.others v i b.0) ∙ b.1)
-      ]
+      let i : v ≢ x = λ q. false_true (ap (λ (o : ℕ). get_or (set gone x true) o false) q ∙ get_or-set_same gone x true false (omega (arith, hx, l))) k in
+      let k' : get_or gone v false ≡ false = sym (gone_before gone x v true i) ∙ k in
+      elim (st.alone v h e) [
+        | inl q ↦ q
+        | inr b ↦ b.2 ∙ p.prices v i ∙ r.full v h k' (sym (p.others v i b.0) ∙ b.1)
+      ];
 }
 
 -- x was alone and is out
@@ -90,10 +90,10 @@ rests_alone {g} {n} {qs} {ms} {mid_q} {mid_m} {gone} {x} {y} r l hx e hy p = rec
     | inr i ↦
         let k' : get_or gone v false ≡ true = sym (gone_before gone x v true i) ∙ k in
         (p.others v i (λ q. i (q ∙ e)) ∙ (r.out v h k').0, p.prices v i ∙ (r.out v h k').1)
-    ];
+  ];
   full = λ v h k m.
-    let i : v ≢ x = λ q. false_true (ap (λ (o : ℕ). get_or (set gone x true) o false) q ∙ get_or-set_same gone x true false (omega (arith, hx, l))) k in
-    p.prices v i ∙ r.full v h (sym (gone_before gone x v true i) ∙ k) (sym (p.others v i (λ q. i (q ∙ e))) ∙ m)
+      let i : v ≢ x = λ q. false_true (ap (λ (o : ℕ). get_or (set gone x true) o false) q ∙ get_or-set_same gone x true false (omega (arith, hx, l))) k in
+      p.prices v i ∙ r.full v h (sym (gone_before gone x v true i) ∙ k) (sym (p.others v i (λ q. i (q ∙ e))) ∙ m);
 }
 
 pub back_pay : {g : Graph} {n : ℕ} {qs ms : List ℕ} {gone : List Bool} → AreResting g n qs ms gone → (x : ℕ) → OthersPay n qs ms x
@@ -104,15 +104,15 @@ rests_with {g} {n} {qs} {ms} {new_q} {new_m} {gone} {x} r l hx pr am st = record
   priced = pr;
   mates = am;
   out = λ v h k.
-    let i : v ≢ x = λ q. false_true k (ap (λ (o : ℕ). get_or (set gone x false) o false) q ∙ get_or-set_same gone x false false (omega (arith, hx, l))) in
-    let k' : get_or gone v false ≡ true = sym (gone_before gone x v false i) ∙ k in
-    let z : get_or qs v 0 ≡ 0 = (r.out v h k').1 in
-    let o : (get_or new_m v 0 ≡ v) × (get_or new_q v 0 ≡ get_or qs v 0) = st.out v h i (r.out v h k').0 (λ q. omega (arith, q, z)) in
-    (o.0, o.1 ∙ z);
+      let i : v ≢ x = λ q. false_true k (ap (λ (o : ℕ). get_or (set gone x false) o false) q ∙ get_or-set_same gone x false false (omega (arith, hx, l))) in
+      let k' : get_or gone v false ≡ true = sym (gone_before gone x v false i) ∙ k in
+      let z : get_or qs v 0 ≡ 0 = (r.out v h k').1 in
+      let o : (get_or new_m v 0 ≡ v) × (get_or new_q v 0 ≡ get_or qs v 0) = st.out v h i (r.out v h k').0 (λ q. omega (arith, q, z)) in
+      (o.0, o.1 ∙ z);
   full = λ v h k e. elim (st.alone v h e) [
     | inl q ↦ q
     | inr b ↦ b.2 ∙ r.full v h (sym (gone_before gone x v false b.0) ∙ k) b.1
-    ]
+  ];
 }
 
 pub out_parted : {n : ℕ} {qs ms new_m : List ℕ} {x y : ℕ} → length qs ≡ n → length ms ≡ n → x < n → AreParted ms new_m x y → AreOut n qs ms (set qs x 0) new_m x y
@@ -123,5 +123,5 @@ out_parted {n} {qs} {ms} {new_m} {x} {y} lq lm hx p = record {
   prices = λ v d. get_or-set_other qs x v 0 0 d;
   x_is = p.x_is;
   y_is = p.y_is;
-  others = p.others
+  others = p.others;
 }
