@@ -154,3 +154,11 @@ fixed_none {g} {n} {p} {qs} {ms} {now_q} {now_m} {gone} {now} {tight} gr r l ca 
     let f : (m : ℕ) × Fixing g n tracks p qs ms gone row rows m = fixing gr r l sh in
     subst (λ (o : List Bool). IsFixedBy g n gone o p None tracks row rows) (sym tr.fixed)
       (chosen_none f.1 ca (λ j h. subst (λ (o : ℕ). Fails g n (set gone p true) o (get_or tight j 0)) we (tr.failed j (omega (arith, h, il)))))
+
+pub others_none : {g : Graph} {n p : ℕ} {qs ms : List ℕ} {first gone : List Bool} {whole : ℕ} {tight : List ℕ} {i : ℕ} → Trying g n first qs ms gone whole tight p i → (v : ℕ) → v ≢ p → get_or gone v false ≡ get_or first v false
+others_none {g} {n} {p} {qs} {ms} {first} {gone} t v d = ap (λ (o : List Bool). get_or o v false) t.fixed ∙ get_or-set_other first p v true false d
+
+pub others_track : {g : Graph} {n p : ℕ} {qs ms : List ℕ} {first gone new : List Bool} {whole : ℕ} {tight : List ℕ} {i : ℕ} → Trying g n first qs ms gone whole tight p i → (t : ℕ) → g.plots ≤ t → new ≡ set gone t true
+    → (v : ℕ) → v < g.plots → v ≢ p → get_or new v false ≡ get_or first v false
+others_track {g} {n} {p} {qs} {ms} {first} {gone} {new} tr t l e v h d =
+    ap (λ (o : List Bool). get_or o v false) e ∙ get_or-set_other gone t v true false (λ q. omega (arith, q, l, h)) ∙ others_none tr v d

@@ -14,3 +14,4 @@ pub mod Fixing
 pub mod Value
 pub mod Choices
 pub mod Candidates
+pub mod Prefixes

@@ -1,6 +1,6 @@
 //! Of all pairings of least cost the first one, plot by plot.
 
-ghost use Rattle.std.specs.Prelude.{◌≡◌, ◌≤◌, ◌<◌, ℕ, ◌+◌, ◌^◌, ◌∷◌, [], length, get_or, true, false, Bool, List, MatchBool, OnOk, IfOk, sum};
+ghost use Rattle.std.specs.Prelude.{◌≡◌, ◌≢◌, ◌≤◌, ◌<◌, ℕ, ◌+◌, ◌^◌, ◌∷◌, [], length, get_or, true, false, Bool, List, MatchBool, OnOk, IfOk, sum};
 ghost use Rattle.assignment_dual.specs.Pairings.{Row, MISS, IsLeast};
 ghost use Rattle.assignment_dual.specs.Vertices.{HasArc, IsGraph, IsPriced, AreResting};
 ghost use Rattle.assignment_dual.specs.Rests.{ShowsRest};
@@ -84,6 +84,7 @@ fn fix_plot(
     requires here { get_or gone.old p false ≡ false }
     requires tight { AreCandidates graph.now prices.old gone.old p tight.now }
     ensures resting { OnOk result (AreResting graph.now (length prices.old) prices.new mates.new gone.new) }
+    ensures others { OnOk result ((v : ℕ) → v < graph.now.plots → v ≢ p → get_or gone.new v false ≡ get_or gone.old v false) }
     ensures fixed { IfOk result (λ x. (tracks : ℕ) (row : Row) (rows : List Row) → ShowsRest graph.now (length prices.old) tracks gone.old p (row ∷ rows)
         → IsFixedBy graph.now (length prices.old) gone.old gone.new p x tracks row rows) }
 {
@@ -117,6 +118,7 @@ pub fn first_pairing(
     requires few { length prices.old < 2 ^ 40 }
     requires tracks { length prices.old < graph.now.plots + 2 ^ 32 }
     requires plots { graph.now.plots ≤ length prices.old }
+    requires here { (v : ℕ) → v < graph.now.plots → get_or gone.old v false ≡ false }
     ensures { IfOk result (λ pairing. (tracks : ℕ) (rows : List Row) → ShowsRest graph.now (length prices.old) tracks gone.old 0 rows → IsLeast rows pairing.items) }
 {
     let mut pairing = Vec::new(alloc);

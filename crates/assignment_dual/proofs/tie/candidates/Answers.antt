@@ -1,4 +1,5 @@
-use Rattle.std.proofs.Common.{rules}
+use Rattle.std.proofs.Common.{◌≡◌, ◌<◌, ◌+◌, arith, get_or, length}
+use Rattle.std.proofs.lemmas.List.{get_or_default}
 use Rattle.assignment_dual.proofs.Candidates.{collecting_skip, collecting_more, collected}
 use Rattle.assignment_dual.proofs.tie.candidates.Goals as goal
 use Rattle.assignment_dual.proofs.tie.candidates.Goals.{then-is_candidate+in_ok-push, else-is_candidate}
@@ -10,4 +11,6 @@ loop-k-preserved c = elim c.if-is_candidate.branch [
   ]
 
 pub returns : goal.returns
-returns c = collected c.loop-k.invariant (search rules)
+returns c =
+    let l : c.args.p + 1 < length c.args.graph.now.first.items = omega (arith, c.requires.graph.firsts, c.args.graph.now.first.ok.0, c.requires.p) in
+    collected c.loop-k.invariant (omega (arith, get_or_default c.args.graph.now.first.items (c.args.p + 1) c.index-k-end.result.now 0 l, c.index-k-end.ensures, c.loop-k-test.false))

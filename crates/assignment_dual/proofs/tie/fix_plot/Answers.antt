@@ -1,6 +1,6 @@
 use Rattle.std.proofs.Common.{◌≡◌, ◌≤◌, ◌<◌, ℕ, ◌+◌, ◌*◌, length, get_or, sum, List, Bool, true, false, set, arith, refl, sym, ◌∙◌, ap, subst, get_or-set_same}
 use Rattle.assignment_dual.specs.Vertices.{AreResting}
-use Rattle.assignment_dual.proofs.Candidates.{Tried, tried, sum_small, track_here, trying_next, fixed_track, fixed_none}
+use Rattle.assignment_dual.proofs.Candidates.{Tried, tried, sum_small, track_here, trying_next, fixed_track, fixed_none, others_track, others_none}
 use Rattle.assignment_dual.proofs.tie.fix_plot.Goals as goal
 
 pub overflow_add-arc : goal.overflow_add-arc
@@ -62,3 +62,12 @@ loop-k-preserved c =
 pub returns-clause-fixed : goal.returns-clause-fixed
 returns-clause-fixed c =
     fixed_none c.requires.graph c.requires.resting c.requires.count c.requires.tight c.loop-k.k-index c.sum_of-whole.result (omega (arith, c.loop-k-test.false)) c.sum_of-whole.ensures c.loop-k.invariant
+
+pub returns-then-from-sum_of-clause-others : goal.returns-then-from-sum_of-clause-others
+returns-then-from-sum_of-clause-others c =
+    let t : Tried c.args.graph.now (length c.args.prices.now) c.args.gone.now c.index-arc.result.now (get_or c.args.tight.now c.loop-k.k-index 0) =
+      tried c.requires.graph c.requires.tight c.requires.p c.requires.plots c.loop-k.k-index c.index-arc.result.now c.loop-k-test.true c.index-arc.ensures in
+    others_track c.loop-k.invariant c.index-arc.result.now.to t.low c.in_ok-take_out-2.ensures.gone
+
+pub returns-clause-others : goal.returns-clause-others
+returns-clause-others c = λ v h d. others_none c.loop-k.invariant v d
