@@ -15,3 +15,4 @@ pub mod Value
 pub mod Choices
 pub mod Candidates
 pub mod Prefixes
+pub mod Building

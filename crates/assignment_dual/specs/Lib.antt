@@ -6,3 +6,4 @@ pub mod Search
 pub mod Rising
 pub mod Rests
 pub mod Choices
+pub mod Graphs

@@ -3,7 +3,7 @@ ghost use Rattle.std.specs.List.{All};
 ghost use Rattle.assignment_dual.specs.Pairings.{IsLeast, cost};
 ghost use Rattle.assignment_dual.specs.Problems.{rows_of, Proves};
 
-use crate::graph::graph_of;
+use crate::build::graph_of;
 use crate::place::settle_all;
 use crate::search::ALONE;
 use crate::tie::{first_pairing, sum_of};
