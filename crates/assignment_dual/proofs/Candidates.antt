@@ -27,7 +27,7 @@ collecting_first g qs gone p = record {
   sound = λ i h. absurd (omega (arith, h));
   complete = λ j h c. absurd (omega (arith, h, c.arc.from));
   below = λ i h. absurd (omega (arith, h));
-  rising = λ i j h k. absurd (omega (arith, h, k))
+  rising = λ i j h k. absurd (omega (arith, h, k));
 }
 
 pub collecting_skip : {g : Graph} {qs : List ℕ} {gone : List Bool} {p : ℕ} {tight : List ℕ} {k : ℕ} → Collecting g qs gone p tight k → (IsCandidate g qs gone p k → ⊥) → Collecting g qs gone p tight (k + 1)
@@ -37,9 +37,9 @@ collecting_skip {g} {qs} {gone} {p} {tight} {k} s d = record {
   complete = λ j h c. elim (cases_lt j k) [
     | inl l ↦ s.complete j l c
     | inr l ↦ let e : j ≡ k = omega (arith, h, l) in absurd (d (subst (IsCandidate g qs gone p) e c))
-    ];
+  ];
   below = λ i h. omega (arith, s.below i h);
-  rising = s.rising
+  rising = s.rising;
 }
 
 pub collecting_more : {g : Graph} {qs : List ℕ} {gone : List Bool} {p : ℕ} {tight : List ℕ} {k : ℕ} → Collecting g qs gone p tight k → IsCandidate g qs gone p k → Collecting g qs gone p (tight ++ k ∷ []) (k + 1)
@@ -50,21 +50,21 @@ collecting_more {g} {qs} {gone} {p} {tight} {k} s d =
     let at : (P : ℕ → Type 0) → ((i : ℕ) → i < length tight → P (get_or tight i 0)) → P k → (i : ℕ) → i < length (tight ++ k ∷ []) → P (get_or (tight ++ k ∷ []) i 0) = λ P a b i h. elim (cases_lt i (length tight)) [
       | inl l ↦ subst P (sym (old i l)) (a i l)
       | inr l ↦ let e : i ≡ length tight = omega (arith, h, l, len) in subst P (sym (ap (λ (o : ℕ). get_or (tight ++ k ∷ []) o 0) e ∙ new)) b
-      ] in
+    ] in
     record {
       from = omega (arith, s.from);
       sound = at (IsCandidate g qs gone p) s.sound d;
       complete = λ j h c. elim (cases_lt j k) [
         | inl l ↦ let o : (i : ℕ) × (i < length tight) × (get_or tight i 0 ≡ j) = s.complete j l c in (o.0, omega (arith, o.1, len), old o.0 o.1 ∙ o.2)
         | inr l ↦ (length tight, omega (arith, len), omega (arith, new, h, l))
-        ];
+      ];
       below = at (λ o. o < k + 1) (λ i h. omega (arith, s.below i h)) (omega arith);
       rising = λ i j h l.
-        let il : i < length tight = omega (arith, h, l, len) in
-        elim (cases_lt j (length tight)) [
-          | inl q ↦ omega (arith, old i il, old j q, s.rising i j h q)
-          | inr q ↦ let e : j ≡ length tight = omega (arith, l, q, len) in omega (arith, old i il, s.below i il, ap (λ (o : ℕ). get_or (tight ++ k ∷ []) o 0) e, new)
-          ]
+          let il : i < length tight = omega (arith, h, l, len) in
+          elim (cases_lt j (length tight)) [
+            | inl q ↦ omega (arith, old i il, old j q, s.rising i j h q)
+            | inr q ↦ let e : j ≡ length tight = omega (arith, l, q, len) in omega (arith, old i il, s.below i il, ap (λ (o : ℕ). get_or (tight ++ k ∷ []) o 0) e, new)
+          ];
     }
 
 pub collected : {g : Graph} {qs : List ℕ} {gone : List Bool} {p : ℕ} {tight : List ℕ} {k : ℕ} → Collecting g qs gone p tight k → get_or g.first.items (p + 1) 0 ≤ k → AreCandidates g qs gone p tight
@@ -97,9 +97,9 @@ trying_next {g} {n} {first} {qs} {ms} {gone} {whole} {tight} {p} {i} s k t c ke 
               prices = mid_q;
               mates = mid_m;
               resting = subst (λ (o : ℕ). AreResting g n mid_q mid_m (set (set first p true) o true)) tj (subst (λ (o : List Bool). AreResting g n mid_q mid_m (set o t true)) s.fixed (subst (AreResting g n mid_q mid_m) me mr));
-              other = λ z. d (omega (arith, z, ce ∙ ap (cost_at g) ke))
+              other = λ z. d (omega (arith, z, ce ∙ ap (cost_at g) ke));
             })
-        ]
+      ];
     }
 
 -- what is read of a candidate's arc
@@ -125,7 +125,7 @@ tried {g} {n} {qs} {gone} {p} {tight} gr ca pp le i r il e =
       small = omega (arith, c, a.cost);
       low = elim a.across.sides [ inl s ↦ omega (arith, t, s.1) | inr s ↦ absurd (omega (arith, s.0, pp)) ];
       high = omega (arith, t, a.to);
-      here = ap (λ (o : ℕ). get_or gone o false) t ∙ cd.here
+      here = ap (λ (o : ℕ). get_or gone o false) t ∙ cd.here;
     }
 
 pub sum_small : (qs : List ℕ) → ((v : ℕ) → get_or qs v 0 ≤ MISS) → sum qs ≤ MISS * length qs
@@ -145,7 +145,7 @@ fixed_track {g} {n} {p} {qs} {ms} {now_q} {now_m} {new_q} {new_m} {gone} {now} {
     let e : t ≡ g.plots + (t - g.plots) = omega (arith, lo) in
     let ne' : new ≡ set (set gone p true) (g.plots + (t - g.plots)) true = ne ∙ ap (λ (o : List Bool). set o t true) tr.fixed ∙ ap (λ (o : ℕ). set (set gone p true) o true) e in
     subst (λ (o : List Bool). IsFixedBy g n gone o p (Some (t - g.plots)) tracks row rows) (sym ne')
-      (chosen_track f.1 ca il (λ j h. subst (λ (o : ℕ). Fails g n (set gone p true) o (get_or tight j 0)) we (tr.failed j h)) (sym te ∙ e) (subst (AreResting g n new_q new_m) ne' nr) (omega (arith, w, ce, we)))
+    (chosen_track f.1 ca il (λ j h. subst (λ (o : ℕ). Fails g n (set gone p true) o (get_or tight j 0)) we (tr.failed j h)) (sym te ∙ e) (subst (AreResting g n new_q new_m) ne' nr) (omega (arith, w, ce, we)))
 
 pub fixed_none : {g : Graph} {n p : ℕ} {qs ms now_q now_m : List ℕ} {gone now : List Bool} {tight : List ℕ} → IsGraph g n → AreResting g n qs ms gone → length gone ≡ n → AreCandidates g qs gone p tight
     → (i whole : ℕ) → length tight ≤ i → whole ≡ sum qs → Trying g n gone now_q now_m now whole tight p i
@@ -153,7 +153,7 @@ pub fixed_none : {g : Graph} {n p : ℕ} {qs ms now_q now_m : List ℕ} {gone no
 fixed_none {g} {n} {p} {qs} {ms} {now_q} {now_m} {gone} {now} {tight} gr r l ca i whole il we tr tracks row rows sh =
     let f : (m : ℕ) × Fixing g n tracks p qs ms gone row rows m = fixing gr r l sh in
     subst (λ (o : List Bool). IsFixedBy g n gone o p None tracks row rows) (sym tr.fixed)
-      (chosen_none f.1 ca (λ j h. subst (λ (o : ℕ). Fails g n (set gone p true) o (get_or tight j 0)) we (tr.failed j (omega (arith, h, il)))))
+    (chosen_none f.1 ca (λ j h. subst (λ (o : ℕ). Fails g n (set gone p true) o (get_or tight j 0)) we (tr.failed j (omega (arith, h, il)))))
 
 pub others_none : {g : Graph} {n p : ℕ} {qs ms : List ℕ} {first gone : List Bool} {whole : ℕ} {tight : List ℕ} {i : ℕ} → Trying g n first qs ms gone whole tight p i → (v : ℕ) → v ≢ p → get_or gone v false ≡ get_or first v false
 others_none {g} {n} {p} {qs} {ms} {first} {gone} t v d = ap (λ (o : List Bool). get_or o v false) t.fixed ∙ get_or-set_other first p v true false d

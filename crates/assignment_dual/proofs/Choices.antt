@@ -129,10 +129,10 @@ pub record GateAt (g : Graph) (tracks : ℕ) (gone : List Bool) (p : ℕ) (row :
   pub here : get_or gone (g.plots + s) false ≡ false
   pub costs : row s ≡ Some (cost_at g k)
 
-abbrev some_of : Option ℕ → Type 0
+abbrev pub some_of : Option ℕ → Type 0
 some_of o = (c : ℕ) × (o ≡ Some c)
 
-is_some_of : (o : Option ℕ) → IsSome o → some_of o
+pub is_some_of : (o : Option ℕ) → IsSome o → some_of o
 is_some_of None h = absurd (cc)
 is_some_of (Some c) h = (c, refl)
 

@@ -57,7 +57,7 @@ entry_order None (Some t) = inr (inr tt)
 entry_order (Some s) None = inl tt
 entry_order (Some s) (Some t) = elim (cases_order s t) [ inl e ↦ inr (inl (ap Some e)) | inr h ↦ elim h [ inl a ↦ inl a | inr b ↦ inr (inr b) ] ]
 
-least_cost : {rows : List Row} {xs : List (Option ℕ)} → IsLeast rows xs → (ys : List (Option ℕ)) → IsPairing rows ys → cost rows xs ≤ cost rows ys
+pub least_cost : {rows : List Row} {xs : List (Option ℕ)} → IsLeast rows xs → (ys : List (Option ℕ)) → IsPairing rows ys → cost rows xs ≤ cost rows ys
 least_cost l ys p = elim (l.first ys p) [ inl h ↦ omega (arith, h) | inr h ↦ omega (arith, h.0) ]
 
 against : (row : Row) (rows : List Row) (x : Option ℕ) (n : ℕ) (xs ys : List (Option ℕ)) → IsFirstChoice row rows x n → IsLeast (rest x rows) xs → IsPairing (row ∷ rows) ys

@@ -16,3 +16,4 @@ pub mod Choices
 pub mod Candidates
 pub mod Prefixes
 pub mod Building
+pub mod Answer

@@ -23,7 +23,7 @@ pub choosing_first : {g : Graph} {n : ℕ} {first : List Bool} {qs ms : List ℕ
 choosing_first r h = record {
   resting = r;
   here = λ v a b. h v b;
-  so_far = λ tracks rows s. record { left = rows; shows = s; least = λ ys l. l }
+  so_far = λ tracks rows s. record { left = rows; shows = s; least = λ ys l. l };
 }
 
 one_more : (entries : List (Option ℕ)) (x : Option ℕ) (ys : List (Option ℕ)) → entries ++ x ∷ ys ≡ (entries ++ x ∷ []) ++ ys
@@ -38,7 +38,7 @@ left_next {g} {n} {tracks} {p} {gone} {new} entries {rows} {x} (row ∷ left) s 
     record {
       left = rest x left;
       shows = b.shows;
-      least = λ ys q. subst (IsLeast rows) (one_more entries x ys) (l (x ∷ ys) (first_choice row left x b.least ys b.choice q))
+      least = λ ys q. subst (IsLeast rows) (one_more entries x ys) (l (x ∷ ys) (first_choice row left x b.least ys b.choice q));
     }
 
 pub choosing_next : {g : Graph} {n p : ℕ} {first gone new : List Bool} {qs ms new_q new_m : List ℕ} {entries : List (Option ℕ)} {x : Option ℕ} → Choosing g n first qs ms gone p entries → p < g.plots → AreResting g n new_q new_m new
@@ -48,8 +48,8 @@ choosing_next {g} {n} {p} {first} {gone} {new} {qs} {ms} {new_q} {new_m} {entrie
   resting = r;
   here = λ v a b. o v b (λ e. omega (arith, e, a)) ∙ c.here v (omega (arith, a)) b;
   so_far = λ tracks rows s.
-    let l : Left g n tracks gone p entries rows = c.so_far tracks rows s in
-    left_next entries l.left l.shows l.least h (f tracks)
+      let l : Left g n tracks gone p entries rows = c.so_far tracks rows s in
+      left_next entries l.left l.shows l.least h (f tracks);
 }
 
 append_none : (entries : List (Option ℕ)) → entries ++ [] ≡ entries

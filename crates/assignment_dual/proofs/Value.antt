@@ -13,7 +13,7 @@ use Rattle.assignment_dual.proofs.Rests.{IsReadRest, resting_prove}
 unseen-true : (gs : List Bool) → unseen (true ∷ gs) ≡ unseen gs
 unseen-true gs = omega (arith, sum_by-cons (λ (b : Bool). cond {A = ℕ} (not b) 1 0) true gs)
 
-unseen-false : (gs : List Bool) → unseen (false ∷ gs) ≡ 1 + unseen gs
+pub unseen-false : (gs : List Bool) → unseen (false ∷ gs) ≡ 1 + unseen gs
 unseen-false gs = omega (arith, sum_by-cons (λ (b : Bool). cond {A = ℕ} (not b) 1 0) false gs)
 
 -- the tracks

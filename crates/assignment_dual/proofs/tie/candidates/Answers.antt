@@ -8,7 +8,7 @@ pub loop-k-preserved : goal.loop-k-preserved
 loop-k-preserved c = elim c.if-is_candidate.branch [
   | then-is_candidate+in_ok-push w ↦ rw (w.tight-is, w.in_ok-push.ensures.items) (collecting_more c.loop-k.invariant w.if-is_candidate.ensures)
   | else-is_candidate w ↦ rw w.tight-is (collecting_skip c.loop-k.invariant w.if-is_candidate.ensures)
-  ]
+]
 
 pub returns : goal.returns
 returns c =
