@@ -1,7 +1,7 @@
 -- What is read of the vertices is the answer.
-use Rattle.std.proofs.Common.{◌≡◌, ◌≤◌, ◌<◌, ℕ, zero, suc, ◌+◌, ◌*◌, ◌-◌, ℤ, pos, ◌+ℤ◌, ◌-ℤ◌, ◌≤ℤ◌, length, get_or, sum, map, take, drop, List, [], ◌∷◌, Option, Some, None, IsSome, Bool, true, false, not, cond, arith, refl, sym, ◌∙◌, ap, subst, length-drop, length-take}
+use Rattle.std.proofs.Common.{◌≡◌, ◌≤◌, ◌<◌, ℕ, zero, suc, ◌+◌, ◌*◌, ◌-◌, ℤ, pos, ◌+ℤ◌, ◌-ℤ◌, ◌≤ℤ◌, length, get_or, sum, map, take, drop, List, [], ◌∷◌, Option, Some, None, IsSome, Bool, true, false, not, cond, arith, refl, sym, ◌∙◌, ap, subst, length-drop, replicate}
 use Rattle.std.specs.List.{All}
-use Rattle.std.specs.Prelude.{IfSome}
+use Rattle.std.specs.Prelude.{IfSome, IfOk, Result, Ok, Err}
 use Rattle.std.proofs.lemmas.Int.{ints}
 use Rattle.std.proofs.lemmas.List.{get_or-drop, get_or-take}
 use Rattle.std.proofs.lemmas.List.Elements.{All-from_get_or}
@@ -172,3 +172,15 @@ answered {g} {n} {qs} {ms} {gone} {xs} {us} {vs} {c} gr r l z le ue ve ce p h q 
       proves = subst (λ (o : List ℤ). Proves p xs o vs) (sym us') (subst (λ (o : List ℤ). Proves p xs (map pos (take p.plots qs)) o) (sym vs') (answer_proves s least));
       tracks = tracks_named h least.pairing
     }
+
+pub ok_then : {A E : Type 0} {P Q : A → Type 0} (r : Result A E) → ((a : A) → P a → Q a) → IfOk r P → IfOk r Q
+ok_then (Ok a) f h = f a h
+ok_then (Err e) f h = h
+
+none_true : (n v : ℕ) → get_or (replicate n false) v false ≡ false
+none_true zero v = refl
+none_true (suc n) zero = refl
+none_true (suc n) (suc v) = none_true n v
+
+pub all_false : {xs : List Bool} (n : ℕ) → xs ≡ replicate n false → (v : ℕ) → get_or xs v false ≡ false
+all_false {xs} n e v = ap (λ (o : List Bool). get_or o v false) e ∙ none_true n v
