@@ -1,0 +1,9 @@
+pub mod Pairings
+pub mod Problems
+pub mod First
+pub mod Vertices
+pub mod Search
+pub mod Rising
+pub mod Rests
+pub mod Choices
+pub mod Graphs

@@ -1,0 +1,132 @@
+//! Of all pairings of least cost the first one, plot by plot.
+
+ghost use Rattle.std.specs.Prelude.{◌≡◌, ◌≢◌, ◌≤◌, ◌<◌, ℕ, ◌+◌, ◌^◌, ◌∷◌, [], length, get_or, true, false, Bool, List, MatchBool, OnOk, IfOk, sum};
+ghost use Rattle.assignment_dual.specs.Pairings.{Row, MISS, IsLeast};
+ghost use Rattle.assignment_dual.specs.Vertices.{HasArc, IsGraph, IsPriced, AreResting};
+ghost use Rattle.assignment_dual.specs.Rests.{ShowsRest};
+ghost use Rattle.assignment_dual.specs.Choices.{IsCandidate, AreCandidates, IsFixedBy};
+
+use crate::fix::{put_back, take_out};
+use crate::graph::Graph;
+use crate::search::{ALONE, Node, slack};
+use std::alloc::Global;
+use trk_base::NoMemory;
+
+/// The sum of all prices.
+pub fn sum_of(prices: &[u32]) -> u64
+    requires count { length prices.now < 2 ^ 40 }
+    requires small { (v : ℕ) → get_or prices.now v 0 ≤ MISS }
+    ensures { result ≡ sum prices.now }
+{
+    let mut sum = 0;
+    for price in prices {
+        sum += u64::from(*price);
+    }
+    sum
+}
+
+/// Whether the arc k of p is tight, and its track isn't gone.
+fn is_candidate(graph: &Graph, prices: &[u32], gone: &[bool], p: usize, k: usize) -> bool
+    requires graph { IsGraph graph.now (length prices.now) }
+    requires priced { IsPriced graph.now (length prices.now) prices.now }
+    requires count { length gone.now ≡ length prices.now }
+    requires p { p < length prices.now }
+    requires arc { HasArc graph.now p k }
+    ensures { MatchBool result (IsCandidate graph.now prices.now gone.now p k) (IsCandidate graph.now prices.now gone.now p k → ⊥) }
+{
+    let (t, slack) = slack(graph, prices, p, k);
+    slack == 0 && !gone[t]
+}
+
+/// The arcs of the plot p that are tight, to tracks that aren't gone, in their order.
+fn candidates(
+    graph: &Graph,
+    prices: &[u32],
+    gone: &[bool],
+    p: usize,
+    tight: &mut Vec<usize>,
+) -> Result<(), NoMemory>
+    requires graph { IsGraph graph.now (length prices.now) }
+    requires priced { IsPriced graph.now (length prices.now) prices.now }
+    requires count { length gone.now ≡ length prices.now }
+    requires p { p < length prices.now }
+    requires empty { tight.old.items ≡ [] }
+    ensures { OnOk result (AreCandidates graph.now prices.now gone.now p tight.new.items) }
+{
+    for k in graph.first[p]..graph.first[p + 1] {
+        if is_candidate(graph, prices, gone, p, k) {
+            tight.push(k)?;
+        }
+    }
+    Ok(())
+}
+
+/// Fixes the plot p by its entry in the first of the pairings that cost least: the track of the
+/// first candidate with which the least cost stays what it was, or none.
+fn fix_plot(
+    graph: &Graph,
+    prices: &mut [u32],
+    mates: &mut [usize],
+    seen: &mut [bool],
+    tree: &mut Vec<Node>,
+    gone: &mut [bool],
+    tight: &[usize],
+    p: usize,
+) -> Result<Option<u32>, NoMemory>
+    requires graph { IsGraph graph.now (length prices.old) }
+    requires resting { AreResting graph.now (length prices.old) prices.old mates.old gone.old }
+    requires seen { length seen.old ≡ length prices.old }
+    requires count { length gone.old ≡ length prices.old }
+    requires few { length prices.old < 2 ^ 40 }
+    requires tracks { length prices.old < graph.now.plots + 2 ^ 32 }
+    requires plots { graph.now.plots ≤ length prices.old }
+    requires p { p < graph.now.plots }
+    requires here { get_or gone.old p false ≡ false }
+    requires tight { AreCandidates graph.now prices.old gone.old p tight.now }
+    ensures resting { OnOk result (AreResting graph.now (length prices.old) prices.new mates.new gone.new) }
+    ensures others { OnOk result ((v : ℕ) → v < graph.now.plots → v ≢ p → get_or gone.new v false ≡ get_or gone.old v false) }
+    ensures fixed { IfOk result (λ x. (tracks : ℕ) (row : Row) (rows : List Row) → ShowsRest graph.now (length prices.old) tracks gone.old p (row ∷ rows)
+        → IsFixedBy graph.now (length prices.old) gone.old gone.new p x tracks row rows) }
+{
+    let whole = sum_of(prices);
+    take_out(graph, prices, mates, seen, tree, gone, p)?;
+    for k in tight {
+        let arc = graph.arcs[*k];
+        take_out(graph, prices, mates, seen, tree, gone, arc.to)?;
+        if u64::from(arc.cost + ALONE) + sum_of(prices) == whole {
+            return Ok(Some((arc.to - graph.plots) as u32));
+        }
+        put_back(graph, prices, mates, seen, tree, gone, arc.to)?;
+    }
+    Ok(None)
+}
+
+/// The first of the pairings that cost least.
+pub fn first_pairing(
+    alloc: Global,
+    graph: &Graph,
+    prices: &mut [u32],
+    mates: &mut [usize],
+    seen: &mut [bool],
+    tree: &mut Vec<Node>,
+    gone: &mut [bool],
+) -> Result<Vec<Option<u32>>, NoMemory>
+    requires graph { IsGraph graph.now (length prices.old) }
+    requires resting { AreResting graph.now (length prices.old) prices.old mates.old gone.old }
+    requires seen { length seen.old ≡ length prices.old }
+    requires count { length gone.old ≡ length prices.old }
+    requires few { length prices.old < 2 ^ 40 }
+    requires tracks { length prices.old < graph.now.plots + 2 ^ 32 }
+    requires plots { graph.now.plots ≤ length prices.old }
+    requires here { (v : ℕ) → v < graph.now.plots → get_or gone.old v false ≡ false }
+    ensures { IfOk result (λ pairing. (tracks : ℕ) (rows : List Row) → ShowsRest graph.now (length prices.old) tracks gone.old 0 rows → IsLeast rows pairing.items) }
+{
+    let mut pairing = Vec::new(alloc);
+    let mut tight = Vec::new(alloc);
+    for p in 0..graph.plots {
+        tight.clear();
+        candidates(graph, prices, gone, p, &mut tight)?;
+        pairing.push(fix_plot(graph, prices, mates, seen, tree, gone, &tight, p)?)?;
+    }
+    Ok(pairing)
+}
