@@ -1,7 +1,7 @@
 -- The parts, read off a list of the least plots.
-use Rattle.std.specs.Prelude.{◌≡◌, ℕ, ◌-◌, ◌<◌, ◌≤◌, ◌==◌, ◌&&◌, ◌||◌, Bool, not, List, length, slice_index, map, filter}
+use Rattle.std.specs.Prelude.{◌≡◌, ℕ, ◌-◌, ◌<◌, ◌≤◌, ◌==◌, ◌&&◌, ◌||◌, Bool, not, List, [], ◌∷◌, ◌++◌, length, slice_index, map, filter}
 use Rattle.std.specs.List.{range_with_len}
-use Rattle.cluster_split.specs.declared.components.Component.{Component}
+use Rattle.cluster_split.specs.declared.splitting.Component.{Component}
 use Rattle.cluster_split.specs.Walks.{plot_at, track_at}
 
 -- each plot's least one is no greater, and is its own least one
@@ -39,3 +39,19 @@ parts_of least edges n m = map (part_of least edges n m) (leasts_below least n)
 pub record ArePlaces (least places : List ℕ) : Type 0 where
   pub inside : (p : ℕ) → p < length places → slice_index places p < length (leasts_below least (length places))
   pub exact : (p : ℕ) → p < length places → slice_index (leasts_below least (length places)) (slice_index places p) ≡ slice_index least p
+
+-- a part without plots and tracks, one with a plot more, and one with a track more
+abbrev pub no_part : Component
+no_part = record { plots = []; tracks = [] }
+
+abbrev pub with_plot : ℕ → Component → Component
+with_plot plot c = record { plots = c.plots ++ plot ∷ []; tracks = c.tracks }
+
+abbrev pub with_track : ℕ → Component → Component
+with_track track c = record { plots = c.plots; tracks = c.tracks ++ track ∷ [] }
+
+-- the components by the first n plots, and where each of these belongs
+pub record AreGrouped (least : List ℕ) (n : ℕ) (parts : List Component) (places : List ℕ) : Type 0 where
+  pub parts_so_far : parts ≡ parts_of least [] n 0
+  pub places_so_far : ArePlaces least places
+  pub long : length places ≡ n

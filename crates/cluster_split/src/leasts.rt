@@ -2,7 +2,7 @@
 // least one of the set.
 ghost use Rattle.std.specs.Prelude.{◌≡◌, ◌<◌, ◌≤◌, ℕ, All, IfOk, length, slice_index};
 ghost use Rattle.std.specs.List.Sorted.{IsNonDecreasingBy};
-ghost use Rattle.cluster_split.specs.Leasts.{Falls, IsLabelled, merged, AreLeasts};
+ghost use Rattle.cluster_split.specs.Leasts.{Falls, IsLabelled, merged, HasLabels, AreLeasts};
 
 use std::alloc::Global;
 use trk_base::NoMemory;
@@ -17,7 +17,7 @@ fn least_of(lower: &mut [u32], plot: u32) -> u32
     ensures labels { (label : ℕ → ℕ) → IsLabelled lower.old label → IsLabelled lower.new label × (result ≡ label plot) }
 {
     let mut at = plot;
-    while lower[at as usize] != at {
+    'way: while lower[at as usize] != at {
         let next = lower[lower[at as usize] as usize];
         lower[at as usize] = next;
         at = next;
@@ -48,10 +48,32 @@ pub(crate) fn least_plots(
     requires sorted { IsNonDecreasingBy (λ edge. edge.1) by_track.now }
     ensures { IfOk result (λ v. AreLeasts plots by_track.now v.items) }
 {
-    let mut lower: Vec<u32> = (0..plots).collect(alloc)?;
-    join_sharing(&mut lower, by_track);
-    flatten(&mut lower);
+    let mut lower = own_sets(alloc, plots)?;
+    settle(&mut lower, by_track);
     Ok(lower)
+}
+
+/// Each plot as a set of its own.
+fn own_sets(alloc: Global, plots: u32) -> Result<Vec<u32>, NoMemory>
+    ensures len { IfOk result (λ v. length v.items ≡ plots) }
+    ensures own { IfOk result (λ v. (p : ℕ) → p < length v.items → slice_index v.items p ≡ p) }
+{
+    let mut sets = Vec::with_capacity(alloc, plots as usize)?;
+    for plot in 0..plots {
+        sets.push(plot)?;
+    }
+    Ok(sets)
+}
+
+/// From sets of one plot each to the least plot that each plot is connected with.
+fn settle(lower: &mut [u32], by_track: &[(u32, u32)])
+    requires own { (p : ℕ) → p < length lower.old → slice_index lower.old p ≡ p }
+    requires inside { All (λ edge. edge.0 < length lower.old) by_track.now }
+    requires sorted { IsNonDecreasingBy (λ edge. edge.1) by_track.now }
+    ensures { AreLeasts (length lower.old) by_track.now lower.new }
+{
+    join_sharing(lower, by_track);
+    flatten(lower);
 }
 
 /// Joins the plots of all edges that have one track.

@@ -1,6 +1,7 @@
 ghost use Rattle.std.specs.Prelude.{◌≡◌, ◌<◌, ℕ, List, All, IfOk};
+ghost use Rattle.std.specs.List.Sorted.{IsNonDecreasingBy, IsPermutation};
 ghost use Rattle.cluster_split.specs.Components.{AreComponents};
-ghost use Rattle.cluster_split.specs.declared.components.Component.{Component};
+ghost use Rattle.cluster_split.specs.declared.splitting.Component.{Component};
 
 use crate::leasts::least_plots;
 use crate::parts::{add_tracks, parts_of_plots};
@@ -29,19 +30,27 @@ pub fn components(
     requires { All (λ edge. edge.0 < plots) edges.now }
     ensures { IfOk result (λ v. AreComponents plots edges.now v.items) }
 {
-    let mut by_track = Vec::from_slice(alloc, edges)?;
-    by_track.sort_unstable_by_key(|edge| edge.1);
+    let by_track = by_track(alloc, edges)?;
     let least = least_plots(alloc, plots, &by_track)?;
     let (mut parts, places) = parts_of_plots(alloc, &least)?;
     add_tracks(&mut parts, &places, &by_track)?;
     Ok(parts)
 }
 
+/// The same edges, by track.
+fn by_track(alloc: Global, edges: &[(u32, u32)]) -> Result<Vec<(u32, u32)>, NoMemory>
+    ensures same { IfOk result (λ v. IsPermutation edges.now v.items) }
+    ensures sorted { IfOk result (λ v. IsNonDecreasingBy (λ edge. edge.1) v.items) }
+{
+    let mut sorted = Vec::from_slice(alloc, edges)?;
+    sorted.sort_unstable_by_key(|edge| edge.1);
+    Ok(sorted)
+}
+
 /// A graph has exactly one list of components.
 pub fn one_splitting()
     ensures { (plots : ℕ) (edges : List (ℕ × ℕ)) (a b : List Component) → AreComponents plots edges a → AreComponents plots edges b → a ≡ b }
-{
-}
+{}
 
 #[cfg(test)]
 mod tests {
