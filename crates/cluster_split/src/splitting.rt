@@ -55,28 +55,32 @@ pub fn one_splitting()
 #[cfg(test)]
 mod tests {
     use super::*;
+    use std::process::Abort;
+
+    fn split(rt: &HostRuntime, plots: u32, edges: &[(u32, u32)]) -> Vec<Component> {
+        assert!(rt; edges.iter().all(|edge| edge.0 < plots));
+        components(rt.alloc(), plots, edges).expect(rt, "the components")
+    }
 
     #[test]
     fn splits_by_walks(rt: HostRuntime) {
-        let edges = [(1, 1), (0, 0), (0, 1), (1, 0)];
-        let parts = components(rt.alloc(), 2, &edges).unwrap();
+        let parts = split(&rt, 2, &[(1, 1), (0, 0), (0, 1), (1, 0)]);
         assert_eq!(rt; parts.len(), 1);
         assert_eq!(rt; parts[0].plots.as_slice(), [0, 1].as_slice());
         assert_eq!(rt; parts[0].tracks.as_slice(), [0, 1].as_slice());
-        let none = components(rt.alloc(), 0, &[]).unwrap();
-        assert!(rt; none.is_empty());
+        assert!(rt; split(&rt, 0, &[]).is_empty());
     }
 
     #[test]
     fn orders_by_the_least_plot(rt: HostRuntime) {
         let edges = [(3, 9), (1, u32::MAX), (3, u32::MAX), (2, 4), (3, 9), (0, 7)];
-        let parts = components(rt.alloc(), 5, &edges).unwrap();
+        let parts = split(&rt, 5, &edges);
         assert_eq!(rt; parts.len(), 4);
         assert_eq!(rt; parts[0].plots.as_slice(), [0].as_slice());
         assert_eq!(rt; parts[1].plots.as_slice(), [1, 3].as_slice());
         assert_eq!(rt; parts[1].tracks.as_slice(), [9, u32::MAX].as_slice());
         assert_eq!(rt; parts[2].tracks.as_slice(), [4].as_slice());
         assert_eq!(rt; parts[3].plots.as_slice(), [4].as_slice());
-        assert_eq!(rt; parts[3].tracks.len(), 0);
+        assert!(rt; parts[3].tracks.is_empty());
     }
 }
