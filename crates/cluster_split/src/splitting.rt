@@ -57,24 +57,24 @@ mod tests {
     use super::*;
     use std::process::Abort;
 
-    fn split(rt: &HostRuntime, plots: u32, edges: &[(u32, u32)]) -> Vec<Component> {
+    fn split(rt: &impl Abort, alloc: Global, plots: u32, edges: &[(u32, u32)]) -> Vec<Component> {
         assert!(rt; edges.iter().all(|edge| edge.0 < plots));
-        components(rt.alloc(), plots, edges).expect(rt, "the components")
+        components(alloc, plots, edges).expect(rt, "the components")
     }
 
     #[test]
     fn splits_by_walks(rt: HostRuntime) {
-        let parts = split(&rt, 2, &[(1, 1), (0, 0), (0, 1), (1, 0)]);
+        let parts = split(&rt, rt.alloc(), 2, &[(1, 1), (0, 0), (0, 1), (1, 0)]);
         assert_eq!(rt; parts.len(), 1);
         assert_eq!(rt; parts[0].plots.as_slice(), [0, 1].as_slice());
         assert_eq!(rt; parts[0].tracks.as_slice(), [0, 1].as_slice());
-        assert!(rt; split(&rt, 0, &[]).is_empty());
+        assert!(rt; split(&rt, rt.alloc(), 0, &[]).is_empty());
     }
 
     #[test]
     fn orders_by_the_least_plot(rt: HostRuntime) {
         let edges = [(3, 9), (1, u32::MAX), (3, u32::MAX), (2, 4), (3, 9), (0, 7)];
-        let parts = split(&rt, 5, &edges);
+        let parts = split(&rt, rt.alloc(), 5, &edges);
         assert_eq!(rt; parts.len(), 4);
         assert_eq!(rt; parts[0].plots.as_slice(), [0].as_slice());
         assert_eq!(rt; parts[1].plots.as_slice(), [1, 3].as_slice());

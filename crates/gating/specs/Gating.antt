@@ -41,8 +41,12 @@ innovation axis d z = z -ℤ (combined axis d).0
 abbrev pub innovation_variance : AxisState → ℤ → ℕ → ℕ
 innovation_variance axis d r = unsigned_abs (combined axis d).2 + r
 
+-- in 1/128 s
+abbrev pub time_step : AimState → PlanePlot → ℤ
+time_step a p = pos p.key.time -ℤ pos a.time
+
 -- the cost of pairing the track with the plot
 unfoldable pub gate : AimState → PlanePlot → Option ℕ
 gate a p =
-    let d = pos p.key.time -ℤ pos a.time in
+    let d = time_step a p in
     if is_another a p then None else cost_of (innovation a.x d p.x) (innovation_variance a.x d p.rx) (innovation a.y d p.y) (innovation_variance a.y d p.ry)

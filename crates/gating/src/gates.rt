@@ -1,8 +1,9 @@
-ghost use Rattle.std.specs.Prelude.{◌≡◌, ◌≤◌, ◌+◌, ◌^◌, Bool, pos, ◌-ℤ◌, unsigned_abs};
-ghost use Rattle.fixed_imm.specs.Bounds.{IsTimeStep};
-ghost use Rattle.gating.specs.Gating.{axis_cost, cost_of, is_another, gate};
+ghost use Rattle.std.specs.Prelude.{◌≡◌, ◌≤◌, ◌^◌, unsigned_abs};
+ghost use Rattle.trk_base.specs.Ranges.{IsCode, IsAddress};
+ghost use Rattle.fixed_imm.specs.Bounds.{IsTimeStep, IsPosition, IsVariance};
+ghost use Rattle.gating.specs.Gating.{axis_cost, cost_of, is_another, time_step, innovation, innovation_variance, gate};
 
-use fixed_imm::Aim;
+use fixed_imm::{Aim, Axis};
 use plot_geometry::PlanePlot;
 use trk_base::round_div;
 
@@ -54,12 +55,35 @@ fn is_another(aim: &Aim, plot: &PlanePlot) -> bool
     ensures { result ≡ is_another aim.now plot.now }
 {
     match (aim.address, plot.address) {
-        (Some(known), Some(told)) => known != told,
+        (Some(aircraft), Some(other)) => aircraft != other,
         _ => match (aim.code, plot.code) {
-            (Some(known), Some(told)) => known != told,
+            (Some(code), Some(other)) => code != other,
             _ => false,
         },
     }
+}
+
+/// How much later than a track's time a plot was measured, in 1/128 s.
+fn time_step(aim: &Aim, plot: &PlanePlot) -> i32
+    requires { IsTimeStep (time_step aim.now plot.now) }
+    ensures { result ≡ time_step aim.now plot.now }
+{
+    (i128::from(plot.key.time) - i128::from(aim.time)) as i32
+}
+
+/// How far a measured position lies from where it is expected, and the variance of that.
+fn innovation(axis: &Axis, d: i32, z: i64, r: u64) -> (i64, u64)
+    requires step { IsTimeStep d }
+    requires place { IsPosition z }
+    requires variance { IsVariance r }
+    ensures innovation { result.0 ≡ innovation axis.now d z }
+    ensures variance { result.1 ≡ innovation_variance axis.now d r }
+    ensures near { unsigned_abs result.0 ≤ 2 ^ 31 }
+    ensures some { 1 ≤ result.1 }
+    ensures most { result.1 ≤ 2 ^ 56 }
+{
+    let (position, _, variance) = axis.combined(d);
+    (z - position, variance as u64 + r)
 }
 
 /// The cost of pairing a track with a plot, from half a second before the track's time to 60.5 s
@@ -68,27 +92,21 @@ fn is_another(aim: &Aim, plot: &PlanePlot) -> bool
 /// There is none where the plot is of another aircraft, by its address (I048/220) or, unless both
 /// have one, by its Mode 3/A code (I048/070), nor where `cost_of` has none.
 pub fn gate(aim: &Aim, plot: &PlanePlot) -> Option<u16>
-    requires { IsTimeStep (pos plot.now.key.time -ℤ pos aim.now.time) }
+    requires { IsTimeStep (time_step aim.now plot.now) }
     ensures { result ≡ gate aim.now plot.now }
 {
     if is_another(aim, plot) {
         return None;
     }
-    let d = (i128::from(plot.key.time) - i128::from(aim.time)) as i32;
-    let (x, _, x_variance) = aim.x.combined(d);
-    let (y, _, y_variance) = aim.y.combined(d);
-    cost_of(
-        plot.x - x,
-        x_variance as u64 + plot.rx,
-        plot.y - y,
-        y_variance as u64 + plot.ry,
-    )
+    let d = time_step(aim, plot);
+    let (ex, sx) = innovation(&aim.x, d, plot.x, plot.rx);
+    let (ey, sy) = innovation(&aim.y, d, plot.y, plot.ry);
+    cost_of(ex, sx, ey, sy)
 }
 
 #[cfg(test)]
 mod tests {
     use super::*;
-    use fixed_imm::Axis;
     use trk_base::Key;
 
     #[test]
@@ -97,5 +115,53 @@ mod tests {
         assert_eq!(rt; cost_of(401, 10_000, 0, 1), None);
         assert_eq!(rt; cost_of(-512_000, 1 << 40, 512_000, 1 << 40), Some(122));
         assert_eq!(rt; cost_of(0, 1, 512_001, 1 << 56), None);
+    }
+    // A track at the origin, and a plot 118 units later, 50,000 units to the east.
+    fn gate_of(
+        codes: (Option<u16>, Option<u16>),
+        addresses: (Option<u32>, Option<u32>),
+    ) -> Option<u16>
+        requires known_code { IsCode codes.0 }
+        requires code { IsCode codes.1 }
+        requires known_address { IsAddress addresses.0 }
+        requires address { IsAddress addresses.1 }
+    {
+        let axis = Axis::start(0, 18_496);
+        let aim = Aim {
+            x: axis,
+            y: axis,
+            time: 4_608_000,
+            address: addresses.0,
+            code: codes.0,
+        };
+        let plot = PlanePlot {
+            key: Key {
+                slot: 72_001,
+                radar: 0,
+                time: 4_608_118,
+                arrival: 1,
+            },
+            x: 50_000,
+            y: 0,
+            rx: 18_496,
+            ry: 18_496,
+            kind: 2,
+            spi: false,
+            code: codes.1,
+            level: None,
+            address: addresses.1,
+        };
+        gate(&aim, &plot)
+    }
+
+    #[test]
+    fn compares_addresses_first(rt: HostRuntime) {
+        assert_eq!(rt; gate_of((None, None), (None, None)), Some(2_042));
+        assert_eq!(rt; gate_of((Some(1), Some(2)), (None, Some(1))), None);
+        assert_eq!(rt;
+            gate_of((Some(1), Some(2)), (Some(1), Some(1))),
+            Some(2_042)
+        );
+        assert_eq!(rt; gate_of((Some(1), Some(1)), (Some(2), Some(1))), None);
     }
 }
