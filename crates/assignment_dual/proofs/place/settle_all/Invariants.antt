@@ -1,0 +1,6 @@
+use Rattle.std.proofs.Common.{◌≡◌, ◌<◌, ℕ, length}
+use Rattle.assignment_dual.proofs.Adding.{Adding}
+use Rattle.assignment_dual.proofs.place.settle_all.Given as goal
+
+abbrev pub invariant-loop-p : goal.invariant-loop-p
+invariant-loop-p l = Adding l.graph (length l.fn.prices) l.prices l.mates l.p

@@ -1,0 +1,10 @@
+use Rattle.std.proofs.Common.{◌+◌, ◌-◌, length}
+use Rattle.assignment_dual.specs.Search.{unseen}
+use Rattle.assignment_dual.proofs.Trees.{Growing}
+use Rattle.assignment_dual.proofs.search.grow.Given as goal
+
+abbrev pub invariant-nodes : goal.invariant-nodes
+invariant-nodes l = Growing l.graph l.prices l.mates l.fn.seen l.seen l.fn.tree.items l.tree.items l.next
+
+abbrev pub decreases-nodes : goal.decreases-nodes
+decreases-nodes l = length l.tree.items + unseen l.seen - l.next

@@ -1,0 +1,208 @@
+//! A tree of tight arcs is searched for a place for its root.
+
+ghost use Rattle.std.specs.Prelude.{◌≡◌, ◌≢◌, ◌≤◌, ◌<◌, ℕ, ◌+◌, length, get_or, true, false, Bool, List, MatchBool, MatchOption, IfOk, OnOk};
+ghost use Rattle.assignment_dual.specs.Pairings.{MISS};
+ghost use Rattle.assignment_dual.specs.Vertices.{HasArc, to_of, cost_at, IsGraph, IsPriced, TightArc, AreMates, OthersPay};
+ghost use Rattle.assignment_dual.specs.Search.{unseen, IsSwept, vertex_at, mate_at, IsSearchTree, ArePaired, IsEnd, IsExhausted, GoesOn, IsPlaced, AreTurned, AreParted};
+
+use crate::graph::Graph;
+use trk_base::NoMemory;
+
+/// What a vertex pays that stays alone.
+pub const ALONE: u32 = 4097;
+
+/// A vertex that a search has seen. Its mate belongs to the tree with it.
+#[derive(Clone, Copy)]
+pub struct Node {
+    /// The vertex.
+    pub vertex: usize,
+    /// The node whose mate has a tight arc to the vertex; of the root, which has none, 0.
+    pub from: usize,
+}
+
+/// The mate of a node's vertex.
+fn mate_of(mates: &[usize], tree: &[Node], i: usize) -> usize
+    requires i { i < length tree.now }
+    requires within { vertex_at tree.now i < length mates.now }
+    ensures { result ≡ mate_at mates.now tree.now i }
+{
+    mates[tree[i].vertex]
+}
+
+/// Where the arc k of x leads, and how much more the two prices may be together.
+pub fn slack(graph: &Graph, prices: &[u32], x: usize, k: usize) -> (usize, u32)
+    requires graph { IsGraph graph.now (length prices.now) }
+    requires priced { IsPriced graph.now (length prices.now) prices.now }
+    requires x { x < length prices.now }
+    requires arc { HasArc graph.now x k }
+    ensures to { result.0 ≡ to_of graph.now k }
+    ensures within { result.0 < length prices.now }
+    ensures slack { get_or prices.now x 0 + get_or prices.now (to_of graph.now k) 0 + result.1 ≡ cost_at graph.now k + MISS }
+{
+    let arc = graph.arcs[k];
+    (arc.to, arc.cost + ALONE - (prices[x] + prices[arc.to]))
+}
+
+/// Where the arc k of x leads, if it is tight and leads to a vertex that isn't seen.
+fn opens(graph: &Graph, prices: &[u32], seen: &[bool], x: usize, k: usize) -> Option<usize>
+    requires graph { IsGraph graph.now (length prices.now) }
+    requires priced { IsPriced graph.now (length prices.now) prices.now }
+    requires seen { length seen.now ≡ length prices.now }
+    requires x { x < length prices.now }
+    requires arc { HasArc graph.now x k }
+    ensures answer { MatchOption result
+        (get_or prices.now x 0 + get_or prices.now (to_of graph.now k) 0 ≡ cost_at graph.now k + MISS → get_or seen.now (to_of graph.now k) false ≡ true)
+        (λ y. TightArc graph.now prices.now x y k × (y < length prices.now) × (get_or seen.now y false ≡ false)) }
+{
+    let (y, slack) = slack(graph, prices, x, k);
+    if slack == 0 && !seen[y] {
+        return Some(y);
+    }
+    None
+}
+
+/// Takes in what the tight arcs of the mate of the node `at` lead to, up to a vertex that is
+/// alone. Its node is answered.
+fn sweep(
+    graph: &Graph,
+    prices: &[u32],
+    mates: &[usize],
+    seen: &mut [bool],
+    tree: &mut Vec<Node>,
+    at: usize,
+) -> Result<Option<usize>, NoMemory>
+    requires graph { IsGraph graph.now (length prices.now) }
+    requires priced { IsPriced graph.now (length prices.now) prices.now }
+    requires mates { AreMates graph.now (length prices.now) prices.now mates.now }
+    requires pay { OthersPay (length prices.now) prices.now mates.now (vertex_at tree.old.items 0) }
+    requires alone { mate_at mates.now tree.old.items 0 ≡ vertex_at tree.old.items 0 }
+    requires seen { length seen.old ≡ length prices.now }
+    requires tree { IsSearchTree graph.now (length prices.now) prices.now mates.now seen.old tree.old.items (vertex_at tree.old.items 0) }
+    requires paired { ArePaired mates.now tree.old.items (length tree.old.items) }
+    requires at { at < length tree.old.items }
+    requires below { get_or prices.now (mate_at mates.now tree.old.items at) 0 ≢ MISS }
+    ensures tree { OnOk result (IsSearchTree graph.now (length prices.now) prices.now mates.now seen.new tree.new.items (vertex_at tree.old.items 0)) }
+    ensures kept { OnOk result ((y : ℕ) → get_or seen.old y false ≡ true → get_or seen.new y false ≡ true) }
+    ensures front { OnOk result (GoesOn tree.old.items tree.new.items) }
+    ensures grown { OnOk result (length tree.new.items + unseen seen.new ≡ length tree.old.items + unseen seen.old) }
+    ensures answer { IfOk result (λ end. MatchOption end
+        (ArePaired mates.now tree.new.items (length tree.new.items) × IsSwept graph.now prices.now seen.new (mate_at mates.now tree.old.items at))
+        (λ e. IsEnd prices.now mates.now tree.new.items e)) }
+{
+    let x = mate_of(mates, tree, at);
+    for k in graph.first[x]..graph.first[x + 1] {
+        if let Some(y) = opens(graph, prices, seen, x, k) {
+            seen[y] = true;
+            tree.push(Node {
+                vertex: y,
+                from: at,
+            })?;
+            if mates[y] == y {
+                return Ok(Some(tree.len() - 1));
+            }
+        }
+    }
+    Ok(None)
+}
+
+/// Lets the tree grow until there is a place for its root: a node that is alone, or one whose mate
+/// may stay alone. It goes over all nodes, since the prices may have changed.
+fn grow(
+    graph: &Graph,
+    prices: &[u32],
+    mates: &[usize],
+    seen: &mut [bool],
+    tree: &mut Vec<Node>,
+) -> Result<Option<usize>, NoMemory>
+    requires graph { IsGraph graph.now (length prices.now) }
+    requires priced { IsPriced graph.now (length prices.now) prices.now }
+    requires mates { AreMates graph.now (length prices.now) prices.now mates.now }
+    requires pay { OthersPay (length prices.now) prices.now mates.now (vertex_at tree.old.items 0) }
+    requires alone { mate_at mates.now tree.old.items 0 ≡ vertex_at tree.old.items 0 }
+    requires seen { length seen.old ≡ length prices.now }
+    requires tree { IsSearchTree graph.now (length prices.now) prices.now mates.now seen.old tree.old.items (vertex_at tree.old.items 0) }
+    requires paired { ArePaired mates.now tree.old.items (length tree.old.items) }
+    ensures tree { OnOk result (IsSearchTree graph.now (length prices.now) prices.now mates.now seen.new tree.new.items (vertex_at tree.old.items 0)) }
+    ensures answer { IfOk result (λ end. MatchOption end
+        (IsExhausted graph.now prices.now mates.now seen.new tree.new.items)
+        (λ e. IsEnd prices.now mates.now tree.new.items e)) }
+{
+    let mut next = 0;
+    'nodes: while next < tree.len() {
+        if prices[mate_of(mates, tree, next)] == ALONE {
+            return Ok(Some(next));
+        }
+        if let Some(end) = sweep(graph, prices, mates, seen, tree, next)? {
+            return Ok(Some(end));
+        }
+        next += 1;
+    }
+    Ok(None)
+}
+
+/// Parts x from its mate, which is answered.
+pub fn part(mates: &mut [usize], x: usize) -> usize
+    requires x { x < length mates.old }
+    requires mate { get_or mates.old x 0 < length mates.old }
+    ensures mate { result ≡ get_or mates.old x 0 }
+    ensures parted { AreParted mates.old mates.new x result }
+{
+    let y = mates[x];
+    mates[y] = y;
+    mates[x] = x;
+    y
+}
+
+/// Makes x and y mates; y's mate, which is answered, stays alone.
+fn take(mates: &mut [usize], x: usize, y: usize) -> usize
+    requires x { x < length mates.old }
+    requires y { y < length mates.old }
+    requires mate { get_or mates.old y 0 < length mates.old }
+    requires other { x ≢ y }
+    requires apart { get_or mates.old y 0 ≢ x }
+    ensures value { result ≡ get_or mates.old y 0 }
+    ensures turned { AreTurned mates.old mates.new x y result }
+{
+    let z = mates[y];
+    mates[z] = z;
+    mates[x] = y;
+    mates[y] = x;
+    z
+}
+
+/// Whether the root of the tree gets a place. If so, the vertex of each node on the path to it is
+/// given to the mate of the node before; else the tree has grown as far as it can.
+pub fn reach(
+    graph: &Graph,
+    prices: &[u32],
+    mates: &mut [usize],
+    seen: &mut [bool],
+    tree: &mut Vec<Node>,
+) -> Result<bool, NoMemory>
+    requires graph { IsGraph graph.now (length prices.now) }
+    requires priced { IsPriced graph.now (length prices.now) prices.now }
+    requires mates { AreMates graph.now (length prices.now) prices.now mates.old }
+    requires pay { OthersPay (length prices.now) prices.now mates.old (vertex_at tree.old.items 0) }
+    requires alone { mate_at mates.old tree.old.items 0 ≡ vertex_at tree.old.items 0 }
+    requires seen { length seen.old ≡ length prices.now }
+    requires tree { IsSearchTree graph.now (length prices.now) prices.now mates.old seen.old tree.old.items (vertex_at tree.old.items 0) }
+    requires paired { ArePaired mates.old tree.old.items (length tree.old.items) }
+    ensures mates { OnOk result (AreMates graph.now (length prices.now) prices.now mates.new) }
+    ensures tree { OnOk result (IsSearchTree graph.now (length prices.now) prices.now mates.old seen.new tree.new.items (vertex_at tree.old.items 0)) }
+    ensures answer { IfOk result (λ placed. MatchBool placed
+        (IsPlaced (length prices.now) prices.now mates.old mates.new (vertex_at tree.old.items 0))
+        ((mates.new ≡ mates.old) × IsExhausted graph.now prices.now mates.old seen.new tree.new.items)) }
+{
+    let Some(end) = grow(graph, prices, mates, seen, tree)? else {
+        return Ok(false);
+    };
+    part(mates, tree[end].vertex);
+    let mut at = end;
+    'path: while at > 0 {
+        let node = tree[at];
+        let mate = mate_of(mates, tree, node.from);
+        take(mates, node.vertex, mate);
+        at = node.from;
+    }
+    Ok(true)
+}
