@@ -1,20 +1,20 @@
 -- The parts that are read off the least plots are the components.
-use Rattle.std.proofs.Common.{◌≡◌, ◌≢◌, ℕ, suc, zero, ◌+◌, ◌-◌, ◌<◌, ◌≤◌, Bool, true, false, not, ◌&&◌, List, [], ◌∷◌, length, get_or, map, arith, refl, sym, ◌∙◌, ap, subst, inl, inr, ◌↔◌, eqb}
-use Rattle.std.proofs.lemmas.Bool.{cases_eq, cases_lt, eqb-true, eqb-false, eq-eqb, ne_eqb, and_from, and_parts, or_cases, not-true, true≢false}
+use Rattle.std.proofs.Common.{◌≡◌, ◌≢◌, ℕ, suc, zero, ◌+◌, ◌-◌, ◌<◌, ◌≤◌, Bool, true, not, List, [], ◌∷◌, length, get_or, map, arith, refl, sym, ◌∙◌, ap, subst, inl, inr, ◌↔◌, eqb}
+use Rattle.std.proofs.lemmas.Bool.{cases_eq, eqb-true, eqb-false, eq-eqb, and_from, and_parts, or_cases, not-true}
 use Rattle.std.proofs.lemmas.List.{get_or_default, get_or-map, length-map}
-use Rattle.std.proofs.lemmas.List.Elements.{Contains-get_or, All-contains, All-map, All-filter, filter_passes}
+use Rattle.std.proofs.lemmas.List.Elements.{Contains-get_or, All-map}
 use Rattle.std.specs.List.{Contains, All, filter, range_with_len}
 use Rattle.std.proofs.lemmas.List.Sorted.{IsPermutation-sym, Contains-permutation, All-permutation}
 use Rattle.std.specs.List.Sorted.{IsStrictlyIncreasing, IsNonDecreasingBy, IsPermutation}
 use Rattle.cluster_split.specs.declared.splitting.Component.{Component}
 use Rattle.cluster_split.specs.Walks.{AreConnected, ShareTrack, plot_at, track_at}
 use Rattle.cluster_split.specs.Leasts.{AreLeasts}
-use Rattle.cluster_split.specs.Parts.{AreSettled, ArePlaces, AreGrouped, parts_of, part_of, leasts_below, class_below, tracks_below, is_first, is_first_of}
+use Rattle.cluster_split.specs.Parts.{AreSettled, ArePlaces, AreGrouped, parts_of, part_of, leasts_below, class_below, is_first, is_first_of}
 use Rattle.cluster_split.specs.Components.{least_plot, IsComponent, AreComponents}
 use Rattle.cluster_split.proofs.Walking.{back, same_along, with_more}
 use Rattle.cluster_split.proofs.Labels.{edge_place}
 use Rattle.cluster_split.proofs.Placing.{other_track}
-use Rattle.cluster_split.proofs.Ranges.{passing, passing_below, passing_rise, kept_passes, rises_far, below_range}
+use Rattle.cluster_split.proofs.Ranges.{passing, passing_below, passing_rise, kept_passes, rises_far}
 
 pub mapped : {X Y : Type 0} (f : X → Y) (xs : List X) (x : X) → Contains xs x → Contains (map f xs) (f x)
 mapped f xs x h = (h.0, subst (λ n. h.0 < n) (sym (length-map xs f)) h.1, get_or-map f xs h.0 x (f x) h.1 ∙ ap f h.2)

@@ -1,5 +1,5 @@
 -- How labels go on when a way is made shorter, and when two sets become one.
-use Rattle.std.proofs.Common.{◌≡◌, ◌≢◌, ℕ, ◌+◌, ◌-◌, ◌<◌, ◌≤◌, List, length, get_or, set, arith, refl, sym, ◌∙◌, ap, subst, inl, inr, min, max, nat_eq, cond, get_or-set_same, get_or-set_other, length-set, eqb}
+use Rattle.std.proofs.Common.{◌≡◌, ◌≢◌, ℕ, ◌+◌, ◌-◌, ◌<◌, ◌≤◌, List, length, get_or, set, arith, refl, sym, ◌∙◌, ap, subst, inl, inr, min, max, cond, get_or-set_same, get_or-set_other, length-set, eqb}
 use Rattle.std.proofs.lemmas.Bool.{cases_eq, cases_lt, cond_both, eqb-true, eqb-false}
 use Rattle.std.proofs.lemmas.List.{get_or_default}
 use Rattle.std.proofs.lemmas.List.Elements.{Contains-get_or, All-contains}

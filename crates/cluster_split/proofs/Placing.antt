@@ -1,6 +1,6 @@
 -- How the components grow by a plot, and by a track.
-use Rattle.std.proofs.Common.{◌≡◌, ◌≢◌, ℕ, suc, zero, ◌+◌, ◌-◌, ◌<◌, ◌≤◌, Bool, true, false, cond, not, ◌&&◌, List, [], ◌∷◌, ◌++◌, length, get_or, set, map, arith, refl, sym, ◌∙◌, ap, subst, inl, inr, append-nil, eqb, length-append}
-use Rattle.std.proofs.lemmas.Bool.{cases_eq, cases_lt, eqb-true, eqb-false, eq-eqb, ne_eqb, and_from, and_left, and_right, and_parts, or_left, or_right, or_from, not_from_true, not_from_false}
+use Rattle.std.proofs.Common.{◌≡◌, ◌≢◌, ℕ, zero, ◌+◌, ◌-◌, ◌<◌, ◌≤◌, Bool, true, false, List, [], ◌∷◌, ◌++◌, length, get_or, set, map, arith, refl, sym, ◌∙◌, ap, subst, inl, inr, eqb, length-append}
+use Rattle.std.proofs.lemmas.Bool.{cases_eq, eqb-true, eq-eqb, ne_eqb, and_from, and_left, and_right, or_left, or_right, or_from, not_from_true, not_from_false}
 use Rattle.std.proofs.lemmas.List.{get_or_default, get_or-map, get_or_append_left, get_or_at, map-append, length-map, set_at, get_or_default}
 use Rattle.std.proofs.lemmas.List.Elements.{Contains-get_or}
 use Rattle.std.proofs.lemmas.List.FromFn.{length-range_with_len}
@@ -8,7 +8,7 @@ use Rattle.std.specs.List.{Contains, All, filter, range_with_len}
 use Rattle.cluster_split.specs.declared.splitting.Component.{Component}
 use Rattle.cluster_split.specs.Walks.{plot_at, track_at}
 use Rattle.cluster_split.specs.Parts.{AreSettled, ArePlaces, AreGrouped, parts_of, part_of, leasts_below, class_below, tracks_below, is_first, is_first_of, no_part, with_plot, with_track}
-use Rattle.cluster_split.proofs.Ranges.{passes_more, fails_more, passing, passing_below, passing_rise, kept_passes, rises_once, map_at, map_same, filter_short}
+use Rattle.cluster_split.proofs.Ranges.{passes_more, fails_more, passing_below, passing_rise, kept_passes, rises_once, map_at, map_same, filter_short}
 
 least_at : (least : List ℕ) (n : ℕ) → get_or least n 0 ≡ n → leasts_below least (n + 1) ≡ leasts_below least n ++ n ∷ []
 least_at least n e = passes_more (λ p. eqb (get_or least p 0) p) n (eq-eqb _ _ e)

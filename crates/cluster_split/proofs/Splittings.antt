@@ -1,13 +1,13 @@
 -- There is one list of components.
-use Rattle.std.proofs.Common.{◌≡◌, ℕ, suc, zero, ◌+◌, ◌<◌, ◌≤◌, List, [], ◌∷◌, length, get_or, map, arith, refl, sym, ◌∙◌, ap, subst, inl, inr, ◌↔◌}
+use Rattle.std.proofs.Common.{◌≡◌, ℕ, suc, zero, ◌+◌, ◌<◌, ◌≤◌, List, [], ◌∷◌, length, get_or, map, arith, refl, sym, ◌∙◌, ap, subst}
 use Rattle.std.proofs.lemmas.List.{get_or_default, get_or-map, length-map, same_lists}
 use Rattle.std.proofs.lemmas.List.Elements.{Contains-get_or, All-contains}
-use Rattle.std.specs.List.{Contains, All}
+use Rattle.std.specs.List.{Contains}
 use Rattle.std.specs.List.Sorted.{IsStrictlyIncreasing}
 use Rattle.cluster_split.specs.declared.splitting.Component.{Component}
 use Rattle.cluster_split.specs.Walks.{AreConnected}
 use Rattle.cluster_split.specs.Components.{least_plot, IsComponent, AreComponents}
-use Rattle.cluster_split.proofs.Walking.{back, joined}
+use Rattle.cluster_split.proofs.Walking.{back}
 use Rattle.cluster_split.proofs.Ranges.{rises_far}
 use Rattle.cluster_split.proofs.Classes.{mapped, from_mapped}
 

@@ -1,5 +1,5 @@
 -- The connected parts that hold a plot, of a graph of plots and tracks.
-use Rattle.std.specs.Prelude.{◌≡◌, ℕ, ◌+◌, ◌<◌, ◌↔◌, List, length, slice_index, map, All, Contains}
+use Rattle.std.specs.Prelude.{ℕ, ◌<◌, ◌↔◌, List, length, slice_index, map, All, Contains}
 use Rattle.std.specs.List.Sorted.{IsStrictlyIncreasing}
 use Rattle.cluster_split.specs.declared.splitting.Component.{Component}
 use Rattle.cluster_split.specs.Walks.{AreConnected}

@@ -1,4 +1,4 @@
-use Rattle.std.proofs.Common.{◌+◌, arith, subst, sym}
+use Rattle.std.proofs.Common.{◌+◌, subst, sym}
 use Rattle.cluster_split.specs.Leasts.{Falls, HasLabels}
 use Rattle.cluster_split.proofs.Labels.{first_edge, fewer_edges, one_more_joined, one_more_apart}
 use Rattle.cluster_split.proofs.leasts.join_sharing.Goals as goal

@@ -1,4 +1,3 @@
-use Rattle.std.proofs.Common.{◌≡◌}
 use Rattle.cluster_split.specs.Leasts.{Falls, HasLabels}
 use Rattle.cluster_split.proofs.leasts.join_sharing.Given as goal
 

@@ -1,4 +1,4 @@
-use Rattle.std.proofs.Common.{◌≡◌, ℕ, ◌<◌, ◌≤◌, length}
+use Rattle.std.proofs.Common.{◌≡◌, ℕ, ◌≤◌}
 use Rattle.cluster_split.specs.Leasts.{Falls, IsLabelled}
 use Rattle.cluster_split.proofs.leasts.least_of.Given as goal
 

@@ -1,5 +1,4 @@
-use Rattle.std.proofs.Common.{refl, arith, sym, subst, length}
-use Rattle.cluster_split.specs.Leasts.{HasLabels}
+use Rattle.std.proofs.Common.{arith, sym}
 use Rattle.cluster_split.proofs.Labels.{own_labels, leasts_of_labels}
 use Rattle.cluster_split.proofs.leasts.settle.Goals as goal
 

@@ -1,4 +1,4 @@
-use Rattle.std.proofs.Common.{◌≡◌, ◌+◌, ◌++◌, ◌∷◌, [], get_or, set, length, sym, subst, arith, ◌∙◌}
+use Rattle.std.proofs.Common.{◌≡◌, ◌+◌, ◌++◌, ◌∷◌, [], get_or, set, sym, subst, arith, ◌∙◌}
 use Rattle.cluster_split.specs.Parts.{AreGrouped, with_plot, no_part}
 use Rattle.cluster_split.proofs.Placing.{none_grouped, grouped_new, grouped_more, grouped_as, few_parts}
 use Rattle.cluster_split.proofs.parts.parts_of_plots.Goals as goal

@@ -1,7 +1,7 @@
 use Rattle.std.proofs.Common.{ℕ, ◌≡◌, ◌<◌, List, length, sym, subst, ap, ◌∙◌, arith}
 use Rattle.std.specs.List.{All}
 use Rattle.std.specs.List.Sorted.{IsNonDecreasingBy}
-use Rattle.std.proofs.lemmas.List.Sorted.{All-permutation, length_permutation}
+use Rattle.std.proofs.lemmas.List.Sorted.{All-permutation}
 use Rattle.cluster_split.specs.declared.splitting.Component.{Component}
 use Rattle.cluster_split.specs.Leasts.{AreLeasts}
 use Rattle.cluster_split.specs.Parts.{AreSettled, AreGrouped, ArePlaces, parts_of}

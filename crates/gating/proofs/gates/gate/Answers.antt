@@ -1,4 +1,4 @@
-use Rattle.std.proofs.Common.{◌∙◌, sym, subst, ap, arith, ◌≡◌, ◌≤◌, ◌^◌, ℕ, ℤ, to_z, of_z}
+use Rattle.std.proofs.Common.{◌∙◌, sym, subst, arith, ◌≡◌, ◌≤◌, ◌^◌, ℤ, to_z, of_z}
 use Rattle.std.specs.Int.{w64, w32}
 use Rattle.std.specs.Prelude.{unsigned_abs}
 use Rattle.std.proofs.lemmas.Int.{ints, to_z-of_z, fits_signed_from_abs}
