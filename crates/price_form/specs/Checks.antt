@@ -1,7 +1,7 @@
 -- What the parts of a check find out.
-use Rattle.std.specs.Prelude.{◌≡◌, ◌<◌, ◌≤◌, ◌+◌, ℕ, List, Option, Some, None, length, map, slice_index_or, ℤ, ◌+ℤ◌, ◌≤ℤ◌, pos, All}
+use Rattle.std.specs.Prelude.{◌≡◌, ◌<◌, ◌≤◌, ◌+◌, ◌-◌, ℕ, Bool, true, false, List, Option, Some, None, length, map, slice_index_or, ℤ, ◌+ℤ◌, ◌≤ℤ◌, pos, All}
 use Rattle.std.specs.List.{range_with_len}
-use Rattle.assignment_dual.specs.Pairings.{Row}
+use Rattle.assignment_dual.specs.Pairings.{Row, MISS}
 use Rattle.assignment_dual.specs.Problems.{Edge, EdgeBefore, edge_at, row_of, price_at}
 
 abbrev pub Rises : List Edge → Type 0
@@ -31,3 +31,15 @@ NamesOnce xs n low high = (i j t : ℕ) → i < j → j < n → low ≤ t → t 
 -- no edge costs less than its prices
 abbrev pub EdgesHold : List ℤ → List ℤ → List Edge → Type 0
 EdgesHold us vs edges = All (λ e. (price_at us e.0 +ℤ price_at vs e.1) ≤ℤ pos e.2) edges
+
+-- prices that no plot alone, no track and no edge undercuts
+pub record AreFeasible (edges : List Edge) (us vs : List ℤ) : Type 0 where
+  pub below_miss : All (λ u. u ≤ℤ pos MISS) us
+  pub below_zero : All (λ v. v ≤ℤ pos 0) vs
+  pub below_cost : EdgesHold us vs edges
+
+-- a mark stands for each track from low on that one of the first n entries names, and for no other
+pub record AreMarked (xs : List (Option ℕ)) (n low : ℕ) (marks : List Bool) : Type 0 where
+  pub long : length marks ≡ 65536
+  pub named : (i t : ℕ) → i < n → low ≤ t → t < low + 65536 → entry_at xs i ≡ Some t → slice_index_or marks (t - low) false ≡ true
+  pub marked : (place : ℕ) → place < 65536 → slice_index_or marks place false ≡ true → (i : ℕ) × (i < n) × (entry_at xs i ≡ Some (low + place))

@@ -1,6 +1,6 @@
 // What a pairing names, and what that costs.
-ghost use Rattle.std.specs.Prelude.{◌≡◌, ◌<◌, ◌≤◌, ◌+◌, ◌↔◌, ◌^◌, ◌*◌, ¬◌, IsTrue, MatchOption, MatchBool, IfSome, All, length};
-ghost use Rattle.assignment_dual.specs.Pairings.{AllGate, Once, cost};
+ghost use Rattle.std.specs.Prelude.{◌≡◌, ◌<◌, ◌≤◌, ◌+◌, ◌↔◌, ◌^◌, ◌*◌, IsTrue, MatchOption, MatchBool, IfSome, All, length};
+ghost use Rattle.assignment_dual.specs.Pairings.{AllGate, Gates, Once, entry_cost, cost};
 ghost use Rattle.assignment_dual.specs.Problems.{row_of};
 ghost use Rattle.price_form.specs.Checks.{Rises, first_rows, NamesTwice, NamesOnce};
 
@@ -31,6 +31,21 @@ fn edge_cost(edges: &[(u32, u32, u16)], plot: u32, track: u32) -> Option<u16>
     None
 }
 
+/// What a plot costs that gets this track, or none, where the track has an edge to it.
+fn entry_cost(edges: &[(u32, u32, u16)], plot: u32, entry: Option<u32>) -> Option<u64>
+    requires { Rises edges.now }
+    ensures cost { MatchOption result (¬ Gates (row_of edges.now plot) entry) (λ n. Gates (row_of edges.now plot) entry × (n ≡ entry_cost (row_of edges.now plot) entry)) }
+    ensures size { IfSome result (λ n. n ≤ 65535) }
+{
+    match entry {
+        None => Some(MISS),
+        Some(track) => match edge_cost(edges, plot, track) {
+            None => None,
+            Some(cost) => Some(u64::from(cost)),
+        },
+    }
+}
+
 /// What a pairing costs, where each track that it names has an edge to its plot.
 pub(crate) fn pairing_cost(edges: &[(u32, u32, u16)], pairing: &[Option<u32>]) -> Option<u64>
     requires rising { Rises edges.now }
@@ -38,20 +53,21 @@ pub(crate) fn pairing_cost(edges: &[(u32, u32, u16)], pairing: &[Option<u32>]) -
     ensures { MatchOption result (¬ AllGate (first_rows edges.now (length pairing.now)) pairing.now) (λ n. AllGate (first_rows edges.now (length pairing.now)) pairing.now × (n ≡ cost (first_rows edges.now (length pairing.now)) pairing.now)) }
 {
     let mut sum = 0;
-    for (plot, track) in pairing.iter().enumerate() {
-        sum += match track {
-            None => MISS,
-            Some(track) => u64::from(edge_cost(edges, plot as u32, *track)?),
-        };
+    for (plot, entry) in pairing.iter().enumerate() {
+        match entry_cost(edges, plot as u32, *entry) {
+            None => return None,
+            Some(cost) => sum += cost,
+        }
     }
     Some(sum)
 }
 
-/// Whether no track of a window, from `low` on, is named twice.
-fn names_once_from(pairing: &[Option<u32>], low: u32) -> bool
+/// Whether no track of a window, from `low` on, is named twice. Those that are named are marked.
+fn names_once_from(pairing: &[Option<u32>], low: u32, named: &mut [bool]) -> bool
+    requires { length named.old ≡ 65536 }
     ensures { MatchBool result (NamesOnce pairing.now (length pairing.now) low (low + 65536)) (NamesTwice pairing.now) }
 {
-    let mut named = [false; WINDOW as usize];
+    named.fill(false);
     for track in pairing {
         if let Some(track) = track
             && *track >= low
@@ -73,8 +89,9 @@ pub(crate) fn names_once(pairing: &[Option<u32>], tracks: u32) -> bool
     requires { All (λ x. IfSome x (λ t. t < tracks)) pairing.now }
     ensures { IsTrue result ↔ Once pairing.now }
 {
+    let mut named = [false; WINDOW as usize];
     for window in 0..tracks / WINDOW + 1 {
-        if !names_once_from(pairing, window * WINDOW) {
+        if !names_once_from(pairing, window * WINDOW, &mut named) {
             return false;
         }
     }
