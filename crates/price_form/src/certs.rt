@@ -1,5 +1,6 @@
 use assignment_dual::Costs;
-use trk_base::Sequence;
+use std::alloc::AllocFailed;
+use trk_base::{NoMemory, Sequence};
 
 /// A component of a batch's gate graph, its pairing, and prices that are to prove it.
 #[derive(Debug, Drop, PartialEq, Eq)]
@@ -20,4 +21,34 @@ pub struct Cert {
     pub u: Sequence<i64>,
     /// The price of each track.
     pub v: Sequence<i64>,
+}
+
+/// A record of a price file.
+#[derive(Debug, Drop)]
+pub enum PriceRecord {
+    /// An edition's number, and how many events of the log it covers.
+    Edition { number: u64, cut: u64 },
+    /// A certificate, and the offset of its record's first octet in the file.
+    Cert { cert: Cert, at: usize },
+}
+
+/// Why a price file can't be read.
+#[derive(Clone, Copy, Debug, PartialEq, Eq)]
+pub enum PricesError {
+    /// Here, at a record's first octet, the file is none, or at its very first octet.
+    Fault { offset: usize },
+    /// Memory is wanting.
+    NoMemory,
+}
+
+impl From<NoMemory> for PricesError {
+    fn from(_: NoMemory) -> PricesError {
+        PricesError::NoMemory
+    }
+}
+
+impl<T: Drop> From<AllocFailed<T>> for PricesError {
+    fn from(_: AllocFailed<T>) -> PricesError {
+        PricesError::NoMemory
+    }
 }
