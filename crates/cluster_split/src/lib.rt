@@ -1,0 +1,10 @@
+//! The connected parts of a gate graph: plots of one batch that share tracks, one with the next.
+//!
+//! Each part can be paired by itself, since no track has an edge to two of them.
+#![tactic(auto)]
+
+mod leasts;
+mod parts;
+mod splitting;
+
+pub use splitting::{Component, components, one_splitting};

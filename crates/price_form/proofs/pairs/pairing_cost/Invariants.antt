@@ -1,0 +1,11 @@
+use Rattle.std.proofs.Common.{◌≡◌, ◌≤◌, ◌*◌, take}
+use Rattle.assignment_dual.specs.Pairings.{AllGate, cost}
+use Rattle.price_form.specs.Checks.{first_rows}
+use Rattle.price_form.proofs.pairs.pairing_cost.Given as goal
+
+abbrev pub invariant-loop-plot : goal.invariant-loop-plot
+invariant-loop-plot l = record {
+  gates : AllGate (first_rows l.edges l.plot) (take l.plot l.pairing);
+  sum : l.sum ≡ cost (first_rows l.edges l.plot) (take l.plot l.pairing);
+  size : l.sum ≤ l.plot * 65535;
+}

@@ -1,0 +1,5 @@
+pub mod Certificates
+pub mod Checks
+pub mod Octets
+pub mod Spelling
+pub mod Files

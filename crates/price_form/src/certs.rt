@@ -1,0 +1,54 @@
+use assignment_dual::Costs;
+use std::alloc::AllocFailed;
+use trk_base::{NoMemory, Sequence};
+
+/// A component of a batch's gate graph, its pairing, and prices that are to prove it.
+#[derive(Debug, Drop, PartialEq, Eq)]
+pub struct Cert {
+    /// The batch's slot.
+    pub slot: u64,
+    /// The batch's radar, by its place in the settings.
+    pub radar: u8,
+    /// The arrival of each plot, in the order of the plots' keys.
+    pub plots: Sequence<u64>,
+    /// The arrival of each track's first plot, in the order of the tracks' births.
+    pub tracks: Sequence<u64>,
+    /// The gates and their costs.
+    pub costs: Costs,
+    /// For each plot the place of its track, or none.
+    pub pairing: Sequence<Option<u32>>,
+    /// The price of each plot.
+    pub u: Sequence<i64>,
+    /// The price of each track.
+    pub v: Sequence<i64>,
+}
+
+/// A record of a price file.
+#[derive(Debug, Drop)]
+pub enum PriceRecord {
+    /// An edition's number, and how many events of the log it covers.
+    Edition { number: u64, cut: u64 },
+    /// A certificate, and the offset of its record's first octet in the file.
+    Cert { cert: Cert, at: usize },
+}
+
+/// Why a price file can't be read.
+#[derive(Clone, Copy, Debug, PartialEq, Eq)]
+pub enum PricesError {
+    /// Here, at a record's first octet, the file is none, or at its very first octet.
+    Fault { offset: usize },
+    /// Memory is wanting.
+    NoMemory,
+}
+
+impl From<NoMemory> for PricesError {
+    fn from(_: NoMemory) -> PricesError {
+        PricesError::NoMemory
+    }
+}
+
+impl<T: Drop> From<AllocFailed<T>> for PricesError {
+    fn from(_: AllocFailed<T>) -> PricesError {
+        PricesError::NoMemory
+    }
+}

@@ -1,0 +1,166 @@
+ghost use Rattle.std.specs.Prelude.{◌≡◌, ◌<◌, ◌≤◌, ◌+◌, ◌*◌, ◌↔◌, ◌^◌, ℕ, List, IsTrue, MatchOption, MatchResult, IfSome, IfOk, All, length};
+ghost use Rattle.assignment_dual.specs.Problems.{IsProblem};
+ghost use Rattle.price_form.specs.declared.certs.PriceRecord.{PriceRecord};
+ghost use Rattle.price_form.specs.Files.{ArePrices, IsFault, IfFault};
+
+use crate::numbers::{edges_at, entries_at, half_at, prices_at, word_at, words_at};
+use crate::{Cert, PriceRecord, PricesError};
+use assignment_dual::Costs;
+use std::alloc::Global;
+use trk_base::{NoMemory, Sequence};
+
+/// What a price file begins with: `MRP1`.
+const MAGIC: [u8; 4] = [0x4D, 0x52, 0x50, 0x31];
+
+/// The greatest cost of an edge.
+const MOST: u16 = 4_096;
+
+/// How many plots, tracks and edges a certificate has.
+#[derive(Clone, Copy)]
+struct Counts {
+    plots: u32,
+    tracks: u32,
+    edges: u32,
+}
+
+/// The counts of the certificate at a place, if its octets aren't cut short, and where they end.
+fn counts_at(octets: &[u8], at: usize) -> Option<Counts> {
+    if octets.len() - at < 18 {
+        return None;
+    }
+    let plots = half_at(octets, at + 10);
+    let tracks = half_at(octets, at + 14);
+    let numbers = at + 18 + plots as usize * 8 + tracks as usize * 8;
+    if octets.len() < numbers + 4 {
+        return None;
+    }
+    let edges = half_at(octets, numbers);
+    let counts = Counts { plots, tracks, edges };
+    if octets.len() < counts.end(at) {
+        return None;
+    }
+    Some(counts)
+}
+
+impl Counts {
+    /// Where a certificate of these counts ends that begins at a place.
+    fn end(self, at: usize) -> usize {
+        at + 22 + self.plots as usize * 20 + self.tracks as usize * 16 + self.edges as usize * 10
+    }
+}
+
+/// Whether edges strictly rise, their places are in range and their costs are at most 4,096.
+fn are_edges(edges: &[(u32, u32, u16)], plots: u32, tracks: u32) -> bool {
+    let mut last: Option<(u32, u32)> = None;
+    for (plot, track, cost) in edges {
+        if *plot >= plots || *track >= tracks || *cost > MOST {
+            return false;
+        }
+        if let Some((before, with)) = last
+            && (*plot < before || (*plot == before && *track <= with))
+        {
+            return false;
+        }
+        last = Some((*plot, *track));
+    }
+    true
+}
+
+/// Whether each track that is named is below a number.
+fn name_below(pairing: &[Option<u32>], tracks: u32) -> bool {
+    for entry in pairing {
+        if let Some(track) = entry
+            && *track >= tracks
+        {
+            return false;
+        }
+    }
+    true
+}
+
+/// The certificate at a place, if there is one, and where it ends.
+fn cert_at(alloc: Global, octets: &[u8], at: usize) -> Result<Option<(Cert, usize)>, NoMemory> {
+    let counts = match counts_at(octets, at) {
+        None => return Ok(None),
+        Some(counts) => counts,
+    };
+    let (n, k, m) = (counts.plots as usize, counts.tracks as usize, counts.edges as usize);
+    if n == 0 || counts.tracks == u32::MAX {
+        return Ok(None);
+    }
+    let edges_from = at + 22 + n * 8 + k * 8;
+    let edges = edges_at(alloc, octets, edges_from, m)?;
+    let pairing = entries_at(alloc, octets, edges_from + m * 10, n)?;
+    if !are_edges(&edges, counts.plots, counts.tracks) || !name_below(&pairing, counts.tracks) {
+        return Ok(None);
+    }
+    let prices_from = edges_from + m * 10 + n * 4;
+    let cert = Cert {
+        slot: word_at(octets, at + 1),
+        radar: octets[at + 9],
+        plots: Sequence::of(words_at(alloc, octets, at + 18, n)?),
+        tracks: Sequence::of(words_at(alloc, octets, at + 18 + n * 8, k)?),
+        costs: Costs {
+            plots: counts.plots,
+            tracks: counts.tracks,
+            edges: Sequence::of(edges),
+        },
+        pairing: Sequence::of(pairing),
+        u: Sequence::of(prices_at(alloc, octets, prices_from, n)?),
+        v: Sequence::of(prices_at(alloc, octets, prices_from + n * 8, k)?),
+    };
+    Ok(Some((cert, counts.end(at))))
+}
+
+/// The record at a place, if there is one, and where it ends.
+fn record_at(alloc: Global, octets: &[u8], at: usize) -> Result<Option<(PriceRecord, usize)>, NoMemory> {
+    match octets[at] {
+        1 => {
+            if octets.len() - at < 17 {
+                return Ok(None);
+            }
+            let number = word_at(octets, at + 1);
+            let cut = word_at(octets, at + 9);
+            Ok(Some((PriceRecord::Edition { number, cut }, at + 17)))
+        }
+        2 => match cert_at(alloc, octets, at)? {
+            None => Ok(None),
+            Some((cert, end)) => Ok(Some((PriceRecord::Cert { cert, at }, end))),
+        },
+        _ => Ok(None),
+    }
+}
+
+/// The records of a price file.
+///
+/// A fault is told at the first octet of the first record that is none: where its first octet is
+/// another than `01` and `02`, where it is cut short, has no plots or `FFFFFFFF` tracks, an edge's
+/// place out of range, a cost above 4,096, edges that don't strictly rise, or a paired track that
+/// is neither `FFFFFFFF` nor in range. Another beginning than the four octets is a fault at 0.
+/// No more memory is asked for than a record's octets are there for.
+pub fn read_prices(alloc: Global, bytes: &[u8]) -> Result<Vec<PriceRecord>, PricesError>
+    ensures { MatchResult result (λ v. ArePrices bytes.now v.items) (IfFault bytes.now) }
+{
+    if !bytes.starts_with(&MAGIC) {
+        return Err(PricesError::Fault { offset: 0 });
+    }
+    let mut records = Vec::new(alloc);
+    let mut at = MAGIC.len();
+    while at < bytes.len() {
+        match record_at(alloc, bytes, at)? {
+            None => return Err(PricesError::Fault { offset: at }),
+            Some((record, end)) => {
+                records.push(record)?;
+                at = end;
+            }
+        }
+    }
+    Ok(records)
+}
+
+/// Octets are a price file in one way at most, or have one fault.
+pub fn one_price_file()
+    ensures same_records { (bytes : List ℕ) (a b : List PriceRecord) → ArePrices bytes a → ArePrices bytes b → a ≡ b }
+    ensures same_fault { (bytes : List ℕ) (p q : ℕ) → IsFault bytes p → IsFault bytes q → p ≡ q }
+    ensures not_both { (bytes : List ℕ) (a : List PriceRecord) (p : ℕ) → ArePrices bytes a → IsFault bytes p → ⊥ }
+{}

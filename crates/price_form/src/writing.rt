@@ -1,0 +1,82 @@
+ghost use Rattle.std.specs.Prelude.{◌≡◌, ◌<◌, ◌^◌, ◌++◌, IfOk, OnOk, length};
+ghost use Rattle.std.specs.Int.{w32, w64, to_be_bytes};
+ghost use Rattle.price_form.specs.Certificates.{IsCert};
+ghost use Rattle.price_form.specs.Spelling.{head_octets, gate_octets, proof_octets, cert_octets};
+
+use crate::Cert;
+use crate::numbers::{put_edges, put_entries, put_prices, put_words};
+use std::alloc::Global;
+use trk_base::NoMemory;
+
+fn put_word(out: &mut Vec<u8>, number: u64) -> Result<(), NoMemory>
+    ensures { OnOk result (out.new.items ≡ out.old.items ++ to_be_bytes w64 number) }
+{
+    out.extend_from_slice(&number.to_be_bytes())?;
+    Ok(())
+}
+
+fn put_half(out: &mut Vec<u8>, number: u32) -> Result<(), NoMemory>
+    ensures { OnOk result (out.new.items ≡ out.old.items ++ to_be_bytes w32 number) }
+{
+    out.extend_from_slice(&number.to_be_bytes())?;
+    Ok(())
+}
+
+/// Which batch a certificate is of, and how many plots and tracks it has.
+fn put_head(
+    out: &mut Vec<u8>,
+    slot: u64,
+    radar: u8,
+    plots: u32,
+    tracks: u32,
+) -> Result<(), NoMemory>
+    ensures { OnOk result (out.new.items ≡ out.old.items ++ head_octets slot radar plots tracks) }
+{
+    out.push(2)?;
+    put_word(out, slot)?;
+    out.push(radar)?;
+    put_half(out, plots)?;
+    put_half(out, tracks)
+}
+
+/// Which plots and tracks it has, and the gates between them.
+fn put_gates(
+    out: &mut Vec<u8>,
+    plots: &[u64],
+    tracks: &[u64],
+    edges: &[(u32, u32, u16)],
+) -> Result<(), NoMemory>
+    requires { length edges.now < 2 ^ 32 }
+    ensures { OnOk result (out.new.items ≡ out.old.items ++ gate_octets plots.now tracks.now edges.now) }
+{
+    put_words(out, plots)?;
+    put_words(out, tracks)?;
+    put_half(out, edges.len() as u32)?;
+    put_edges(out, edges)
+}
+
+/// The pairing, and the prices.
+fn put_proof(
+    out: &mut Vec<u8>,
+    pairing: &[Option<u32>],
+    u: &[i64],
+    v: &[i64],
+) -> Result<(), NoMemory>
+    ensures { OnOk result (out.new.items ≡ out.old.items ++ proof_octets pairing.now u.now v.now) }
+{
+    put_entries(out, pairing)?;
+    put_prices(out, u)?;
+    put_prices(out, v)
+}
+
+/// A certificate's record of a price file.
+pub fn write_cert(alloc: Global, cert: &Cert) -> Result<Vec<u8>, NoMemory>
+    requires { IsCert cert.now }
+    ensures { IfOk result (λ v. v.items ≡ cert_octets cert.now) }
+{
+    let mut out = Vec::new(alloc);
+    put_head(&mut out, cert.slot, cert.radar, cert.costs.plots, cert.costs.tracks)?;
+    put_gates(&mut out, cert.plots.as_slice(), cert.tracks.as_slice(), cert.costs.edges.as_slice())?;
+    put_proof(&mut out, cert.pairing.as_slice(), cert.u.as_slice(), cert.v.as_slice())?;
+    Ok(out)
+}
