@@ -78,6 +78,14 @@ pub(crate) fn edges_at(alloc: Global, octets: &[u8], at: usize, count: usize) ->
     Ok(edges)
 }
 
+fn entry_at(octets: &[u8], at: usize) -> Option<u32>
+    requires { at + 4 ≤ length octets.now }
+    ensures { result ≡ entry_number_at octets.now at }
+{
+    let track = half_at(octets, at);
+    if track == NONE { None } else { Some(track) }
+}
+
 /// The places of tracks, or none, from a place on.
 pub(crate) fn entries_at(alloc: Global, octets: &[u8], at: usize, count: usize) -> Result<Vec<Option<u32>>, NoMemory>
     requires { at + count * 4 ≤ length octets.now }
@@ -85,8 +93,7 @@ pub(crate) fn entries_at(alloc: Global, octets: &[u8], at: usize, count: usize) 
 {
     let mut entries = Vec::with_capacity(alloc, count)?;
     for i in 0..count {
-        let track = half_at(octets, at + i * 4);
-        entries.push(if track == NONE { None } else { Some(track) })?;
+        entries.push(entry_at(octets, at + i * 4))?;
     }
     Ok(entries)
 }
