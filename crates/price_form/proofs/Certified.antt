@@ -27,8 +27,15 @@ prices_long = flat_length price_octets 8 (λ x. refl)
 
 gate_long : (ps ts : List ℕ) (es : List Edge) → length (gate_octets ps ts es) ≡ length ps * 8 + length ts * 8 + 4 + length es * 10
 gate_long ps ts es =
-    omega (arith, length-append (flat_map word_octets ps) (flat_map word_octets ts ++ (to_be_bytes w32 (length es) ++ flat_map edge_octets es)), length-append (flat_map word_octets ts) (to_be_bytes w32 (length es) ++ flat_map edge_octets es),
-      length-append (to_be_bytes w32 (length es)) (flat_map edge_octets es), words_long ps, words_long ts, edges_long es)
+    omega (
+      arith,
+      length-append (flat_map word_octets ps) (flat_map word_octets ts ++ (to_be_bytes w32 (length es) ++ flat_map edge_octets es)),
+      length-append (flat_map word_octets ts) (to_be_bytes w32 (length es) ++ flat_map edge_octets es),
+      length-append (to_be_bytes w32 (length es)) (flat_map edge_octets es),
+      words_long ps,
+      words_long ts,
+      edges_long es,
+    )
 
 proof_long : (xs : List (Option ℕ)) (us vs : List ℤ) → length (proof_octets xs us vs) ≡ length xs * 4 + length us * 8 + length vs * 8
 proof_long xs us vs =
@@ -38,8 +45,19 @@ proof_long xs us vs =
 pub cert_long : (c : Cert) (n k m : ℕ) → length c.plots ≡ n → length c.tracks ≡ k → length c.costs.edges ≡ m → length c.pairing ≡ n → length c.u ≡ n → length c.v ≡ k → (p : ℕ) → p + length (cert_octets c) ≡ end_of n k m p
 unfolding cert_octets
 cert_long c n k m a b d e f g p =
-    omega (arith, length-append (head_octets c.slot c.radar c.costs.plots c.costs.tracks) (gate_octets c.plots c.tracks c.costs.edges ++ proof_octets c.pairing c.u c.v),
-      length-append (gate_octets c.plots c.tracks c.costs.edges) (proof_octets c.pairing c.u c.v), gate_long c.plots c.tracks c.costs.edges, proof_long c.pairing c.u c.v, a, b, d, e, f, g)
+    omega (
+      arith,
+      length-append (head_octets c.slot c.radar c.costs.plots c.costs.tracks) (gate_octets c.plots c.tracks c.costs.edges ++ proof_octets c.pairing c.u c.v),
+      length-append (gate_octets c.plots c.tracks c.costs.edges) (proof_octets c.pairing c.u c.v),
+      gate_long c.plots c.tracks c.costs.edges,
+      proof_long c.pairing c.u c.v,
+      a,
+      b,
+      d,
+      e,
+      f,
+      g,
+    )
 
 -- the pieces of a certificate, each at its place
 record Pieces (xs : List ℕ) (p : ℕ) (c : Cert) (n k m : ℕ) : Type 0 where
@@ -105,10 +123,10 @@ from_pieces {xs} {p} c n k m a b d e f h =
     (stands_cons {q = p + 1} h.first refl (stands_both {q = p + 9} h.slot (omega arith) (stands_cons {q = p + 10} h.radar (omega arith) (stands_both {q = p + 14} h.plot_count (omega arith) h.track_count))))
     refl
     (stands_both {q = p + 22 + n * 8 + k * 8 + m * 10}
-      (stands_both {q = p + 18 + n * 8} h.plots (omega (arith, words_long c.plots, a))
-        (stands_both {q = p + 18 + n * 8 + k * 8} h.tracks (omega (arith, words_long c.tracks, b)) (stands_both {q = p + 22 + n * 8 + k * 8} h.edge_count (omega arith) h.edges)))
-      (omega (arith, gate_long c.plots c.tracks c.costs.edges, a, b, d))
-      (stands_both {q = p + 22 + n * 8 + k * 8 + m * 10 + n * 4} h.pairing (omega (arith, entries_long c.pairing, e)) (stands_both {q = p + 22 + n * 8 + k * 8 + m * 10 + n * 4 + n * 8} h.u (omega (arith, prices_long c.u, f)) h.v)))
+    (stands_both {q = p + 18 + n * 8} h.plots (omega (arith, words_long c.plots, a))
+    (stands_both {q = p + 18 + n * 8 + k * 8} h.tracks (omega (arith, words_long c.tracks, b)) (stands_both {q = p + 22 + n * 8 + k * 8} h.edge_count (omega arith) h.edges)))
+    (omega (arith, gate_long c.plots c.tracks c.costs.edges, a, b, d))
+    (stands_both {q = p + 22 + n * 8 + k * 8 + m * 10 + n * 4} h.pairing (omega (arith, entries_long c.pairing, e)) (stands_both {q = p + 22 + n * 8 + k * 8 + m * 10 + n * 4 + n * 8} h.u (omega (arith, prices_long c.u, f)) h.v)))
 
 named_below : (xs : List (Option ℕ)) (k : ℕ) → All (λ x. IfSome x (λ t. t < k)) xs → All (λ x. (t : ℕ) → x ≡ Some t → t < k) xs
 named_below xs k all i d lt t e = let P : Option ℕ → Type 0 = λ x. IfSome x (λ s. s < k) in subst P e (all i d lt)
@@ -131,10 +149,11 @@ cert_is {xs} {p} c f q r h =
     let es = many_is (λ (e : Edge). (e.0 < 2 ^ 32) × (e.1 < 2 ^ 32) × (e.2 < 2 ^ 16)) edge_octets edge_numbers_at 10 (λ x. refl) (λ s x small st. edge_is small.0 small.1 small.2 st) {n = m} c.costs.edges refl ranges b.edges in
     let xx = many_is (λ x. (t : ℕ) → x ≡ Some t → t < k) entry_octets entry_number_at 4 (λ x. refl) (λ s x below st. entry_is f.few_tracks below st) {n = n} c.pairing (sym f.pairing) (named_below c.pairing k f.named) b.pairing in
     let us = many_is (FitsSigned w64) price_octets price_number_at 8 (λ x. refl) (λ s x fit st. price_is fit st) {n = n} c.u (sym f.u) r.u b.u in
-    let vs = many_is (FitsSigned w64) price_octets price_number_at 8 (λ x. refl) (λ s x fit st. price_is fit st) {n = k} c.v (sym f.v) r.v b.v in
-    ((λ j. cert_of xs p (en j) (ek j) (em j))
-      ∙ (λ j. record { slot = slot j; radar = b.radar j; plots = ps j; tracks = ts j; costs = record { plots = n; tracks = k; edges = es j }; pairing = xx j; u = us j; v = vs j }),
-     (λ j. end_of (en j) (ek j) (em j) p) ∙ sym (cert_long c n k m f.plots f.tracks refl f.pairing f.u f.v p))
+    let vs = many_is (FitsSigned w64) price_octets price_number_at 8 (λ x. refl) (λ s x fit st. price_is fit st) {n = k} c.v (sym f.v) r.v b.v in (
+      (λ j. cert_of xs p (en j) (ek j) (em j))
+          ∙ (λ j. record { slot = slot j; radar = b.radar j; plots = ps j; tracks = ts j; costs = record { plots = n; tracks = k; edges = es j }; pairing = xx j; u = us j; v = vs j }),
+      (λ j. end_of (en j) (ek j) (em j) p) ∙ sym (cert_long c n k m f.plots f.tracks refl f.pairing f.u f.v p),
+    )
 
 pub small_word : (xs : List ℕ) → AreOctets xs → (p : ℕ) → word_at xs p < 2 ^ 64
 small_word xs o p = omega (arith, o p, o (p + 1), o (p + 2), o (p + 3), o (p + 4), o (p + 5), o (p + 6), o (p + 7))
@@ -154,18 +173,20 @@ cert_stands {xs} p o first le =
     let d = length-many edge_numbers_at 10 xs (p + 22 + n * 8 + k * 8) m in
     let e = length-many entry_number_at 4 xs (p + 22 + n * 8 + k * 8 + m * 10) n in
     let f = length-many price_number_at 8 xs (p + 22 + n * 8 + k * 8 + m * 10 + n * 4) n in
-    let g = length-many price_number_at 8 xs (p + 22 + n * 8 + k * 8 + m * 10 + n * 4 + n * 8) k in
-    (from_pieces c n k m a b d e f (record {
-      first = first;
-      slot = word_stands (p + 1) o (omega (arith, le));
-      radar = refl;
-      plot_count = half_stands (p + 10) o (omega (arith, le));
-      track_count = half_stands (p + 14) o (omega (arith, le));
-      plots = words (p + 18) n (omega (arith, le));
-      tracks = words (p + 18 + n * 8) k (omega (arith, le));
-      edge_count = subst (λ i. Stands xs (p + 18 + n * 8 + k * 8) (to_be_bytes w32 i)) (sym d) (half_stands (p + 18 + n * 8 + k * 8) o (omega (arith, le)));
-      edges = many_stands edge_octets edge_numbers_at 10 (λ x. refl) (λ q h. edge_stands q o h) (p + 22 + n * 8 + k * 8) m (omega (arith, le));
-      pairing = many_stands entry_octets entry_number_at 4 (λ x. refl) (λ q h. entry_stands q o h) (p + 22 + n * 8 + k * 8 + m * 10) n (omega (arith, le));
-      u = prices (p + 22 + n * 8 + k * 8 + m * 10 + n * 4) n (omega (arith, le));
-      v = prices (p + 22 + n * 8 + k * 8 + m * 10 + n * 4 + n * 8) k (omega (arith, le));
-    }), sym (cert_long c n k m a b d e f g p))
+    let g = length-many price_number_at 8 xs (p + 22 + n * 8 + k * 8 + m * 10 + n * 4 + n * 8) k in (
+      from_pieces c n k m a b d e f (record {
+        first = first;
+        slot = word_stands (p + 1) o (omega (arith, le));
+        radar = refl;
+        plot_count = half_stands (p + 10) o (omega (arith, le));
+        track_count = half_stands (p + 14) o (omega (arith, le));
+        plots = words (p + 18) n (omega (arith, le));
+        tracks = words (p + 18 + n * 8) k (omega (arith, le));
+        edge_count = subst (λ i. Stands xs (p + 18 + n * 8 + k * 8) (to_be_bytes w32 i)) (sym d) (half_stands (p + 18 + n * 8 + k * 8) o (omega (arith, le)));
+        edges = many_stands edge_octets edge_numbers_at 10 (λ x. refl) (λ q h. edge_stands q o h) (p + 22 + n * 8 + k * 8) m (omega (arith, le));
+        pairing = many_stands entry_octets entry_number_at 4 (λ x. refl) (λ q h. entry_stands q o h) (p + 22 + n * 8 + k * 8 + m * 10) n (omega (arith, le));
+        u = prices (p + 22 + n * 8 + k * 8 + m * 10 + n * 4) n (omega (arith, le));
+        v = prices (p + 22 + n * 8 + k * 8 + m * 10 + n * 4 + n * 8) k (omega (arith, le));
+      }),
+      sym (cert_long c n k m a b d e f g p),
+    )

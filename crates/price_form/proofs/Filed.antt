@@ -50,15 +50,15 @@ take_stands bytes at piece h =
     let long = length-take-le at bytes (omega (arith, h.inside)) in
     let long' = length-take-le (at + length piece) bytes h.inside in
     same_number_lists _ _ (omega (arith, long, long', length-append (take at bytes) piece)) (λ k lt.
-      elim (cases_lt k at) [
-        | inl low ↦ get_or-take (at + length piece) bytes k 0 (omega (arith, low)) ∙ sym (get_or_append_left (take at bytes) piece 0 k (omega (arith, low, long)) ∙ get_or-take at bytes k 0 low)
-        | inr high ↦
+    elim (cases_lt k at) [
+      | inl low ↦ get_or-take (at + length piece) bytes k 0 (omega (arith, low)) ∙ sym (get_or_append_left (take at bytes) piece 0 k (omega (arith, low, long)) ∙ get_or-take at bytes k 0 low)
+      | inr high ↦
           let i = k - at in
           let back : at + i ≡ k = omega (arith, high) in
           let back' : length (take at bytes) + i ≡ k = omega (arith, high, long) in
           let in' : i < length piece = omega (arith, high, lt, long') in
           get_or-take (at + length piece) bytes k 0 (omega (arith, lt, long')) ∙ ap (λ j. get_or bytes j 0) (sym back) ∙ h.same i in' ∙ sym (get_or-append-add (take at bytes) piece i 0) ∙ ap (λ j. get_or (take at bytes ++ piece) j 0) back'
-      ])
+    ])
 
 stand_push : (p : ℕ) (rs : List PriceRecord) (r : PriceRecord) → StandFrom p rs → StandsAt (p + length (flat_map record_octets rs)) r → StandFrom p (rs ++ r ∷ [])
 stand_push p [] r h k = let e : p + 0 ≡ p = omega arith in (subst (λ q. StandsAt q r) e k, tt)
@@ -122,7 +122,7 @@ all_many : {X : Type 0} (P : X → Type 0) (r : List ℕ → ℕ → X) (s : ℕ
 unfolding many_at
 all_many P r s xs p n h = All-map P (λ i. r xs (p + i * s)) (range_with_len 0 n) (λ k d lt. h _)
 
-small_half : (xs : List ℕ) → AreOctets xs → (p : ℕ) → half_at xs p < 2 ^ 32
+pub small_half : (xs : List ℕ) → AreOctets xs → (p : ℕ) → half_at xs p < 2 ^ 32
 small_half xs o p = omega (arith, o p, o (p + 1), o (p + 2), o (p + 3))
 
 price_fits : (n : ℕ) → n < 2 ^ 64 → FitsSigned w64 (cast_signed w64 n)
@@ -149,3 +149,6 @@ cert_reads xs p end c at o e value ends le formed problem place =
       at = place;
       ends = ends ∙ h.1 ∙ ap (λ d. p + length (cert_octets d)) (sym value);
     }
+
+pub more_as : {bytes : List ℕ} {at end : ℕ} {records records' : List PriceRecord} → records' ≡ records → More bytes at end records → More bytes at end records'
+more_as {bytes} {at} {end} {records} {records'} e h = subst (More bytes at end) (sym e) h

@@ -6,3 +6,5 @@ pub mod Standing
 pub mod Certified
 pub mod ReadSteps
 pub mod Filed
+pub mod CertReading
+pub mod OneFile

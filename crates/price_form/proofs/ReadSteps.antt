@@ -52,10 +52,10 @@ pub rises_more : (edges : List Edge) (n : ℕ) → ((a b : ℕ) → a < b → b 
 rises_more edges n h k a b lt in' =
     elim (cases_eq b n) [
       | inl e ↦ subst (λ m. EdgeBefore (edge_at edges a) (edge_at edges m)) (sym e) (
-        elim (cases_eq a (n - 1)) [
-          | inl f ↦ subst (λ m. EdgeBefore (edge_at edges m) (edge_at edges n)) (sym f) (k (omega (arith, lt, e)))
-          | inr ne ↦ before_trans (edge_at edges a) (edge_at edges (n - 1)) (edge_at edges n) (h a (n - 1) (omega (arith, lt, e, ne)) (omega (arith, lt, e))) (k (omega (arith, lt, e)))
-        ])
+          elim (cases_eq a (n - 1)) [
+            | inl f ↦ subst (λ m. EdgeBefore (edge_at edges m) (edge_at edges n)) (sym f) (k (omega (arith, lt, e)))
+            | inr ne ↦ before_trans (edge_at edges a) (edge_at edges (n - 1)) (edge_at edges n) (h a (n - 1) (omega (arith, lt, e, ne)) (omega (arith, lt, e))) (k (omega (arith, lt, e)))
+          ])
       | inr ne ↦ h a b lt (omega (arith, in', ne))
     ]
 

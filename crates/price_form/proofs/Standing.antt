@@ -17,13 +17,13 @@ pub stands_both : {xs a b : List ℕ} {p q : ℕ} → Stands xs p a → q ≡ p 
 stands_both {xs} {a} {b} {p} {q} h e k = record {
   inside = omega (arith, h.inside, k.inside, e, length-append a b);
   same = λ i lt.
-    elim (cases_lt i (length a)) [
-      | inl low ↦ h.same i low ∙ sym (get_or_append_left a b 0 i low)
-      | inr high ↦
-        let at : p + i ≡ q + (i - length a) = omega (arith, e, high) in
-        let back : length a + (i - length a) ≡ i = omega (arith, high) in
-        ap (λ j. get_or xs j 0) at ∙ k.same (i - length a) (omega (arith, lt, high, length-append a b)) ∙ sym (get_or-append-add a b (i - length a) 0) ∙ ap (λ j. get_or (a ++ b) j 0) back
-    ];
+      elim (cases_lt i (length a)) [
+        | inl low ↦ h.same i low ∙ sym (get_or_append_left a b 0 i low)
+        | inr high ↦
+            let at : p + i ≡ q + (i - length a) = omega (arith, e, high) in
+            let back : length a + (i - length a) ≡ i = omega (arith, high) in
+            ap (λ j. get_or xs j 0) at ∙ k.same (i - length a) (omega (arith, lt, high, length-append a b)) ∙ sym (get_or-append-add a b (i - length a) 0) ∙ ap (λ j. get_or (a ++ b) j 0) back
+      ];
 }
 
 pub stands_first : {xs : List ℕ} {p : ℕ} (a b : List ℕ) → Stands xs p (a ++ b) → Stands xs p a
@@ -36,8 +36,8 @@ pub stands_second : {xs : List ℕ} {p q : ℕ} (a b : List ℕ) → q ≡ p + l
 stands_second {xs} {p} {q} a b e h = record {
   inside = omega (arith, h.inside, e, length-append a b);
   same = λ i lt.
-    let at : q + i ≡ p + (length a + i) = omega (arith, e) in
-    ap (λ j. get_or xs j 0) at ∙ h.same (length a + i) (omega (arith, lt, length-append a b)) ∙ get_or-append-add a b i 0;
+      let at : q + i ≡ p + (length a + i) = omega (arith, e) in
+      ap (λ j. get_or xs j 0) at ∙ h.same (length a + i) (omega (arith, lt, length-append a b)) ∙ get_or-append-add a b i 0;
 }
 
 pub stands_nil : (xs : List ℕ) (p : ℕ) → p ≤ length xs → Stands xs p []
@@ -197,9 +197,9 @@ pub many_is : {X : Type 0} (P : X → Type 0) (g : X → List ℕ) (r : List ℕ
     → {p n : ℕ} (ys : List X) → n ≡ length ys → All P ys → Stands xs p (flat_map g ys) → many_at r s xs p n ≡ ys
 many_is P g r s {xs} sizes reads {p} {n} ys long all st =
     same_lists (many_at r s xs p n) ys (length-many r s xs p n ∙ long) (λ i d lt.
-      let lt' : i < n = omega (arith, lt, length-many r s xs p n) in
-      let lt'' : i < length ys = omega (arith, lt', long) in
-      get-many r s xs p n i d lt' ∙ reads (p + i * s) (get_or ys i d) (all i d lt'') (item_stands g s sizes ys p st i d lt''))
+    let lt' : i < n = omega (arith, lt, length-many r s xs p n) in
+    let lt'' : i < length ys = omega (arith, lt', long) in
+    get-many r s xs p n i d lt' ∙ reads (p + i * s) (get_or ys i d) (all i d lt'') (item_stands g s sizes ys p st i d lt''))
 
 mul_more : (n s : ℕ) → 0 ≤ n * s
 mul_more n s = omega arith

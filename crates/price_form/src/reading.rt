@@ -47,7 +47,11 @@ fn counts_at(octets: &[u8], at: usize) -> Option<Counts>
         return None;
     }
     let edges = half_at(octets, numbers);
-    let counts = Counts { plots, tracks, edges };
+    let counts = Counts {
+        plots,
+        tracks,
+        edges,
+    };
     if octets.len() < counts.end(at) {
         return None;
     }
@@ -124,7 +128,11 @@ fn cert_at(alloc: Global, octets: &[u8], at: usize) -> Result<Option<(Cert, usiz
         None => return Ok(None),
         Some(counts) => counts,
     };
-    let (n, k, m) = (counts.plots as usize, counts.tracks as usize, counts.edges as usize);
+    let (n, k, m) = (
+        counts.plots as usize,
+        counts.tracks as usize,
+        counts.edges as usize,
+    );
     let edges_from = at + 22 + n * 8 + k * 8;
     let edges = edges_at(alloc, octets, edges_from, m)?;
     let pairing = entries_at(alloc, octets, edges_from + m * 10, n)?;
@@ -153,7 +161,11 @@ fn cert_at(alloc: Global, octets: &[u8], at: usize) -> Result<Option<(Cert, usiz
 }
 
 /// The record at a place, if there is one, and where it ends.
-fn record_at(alloc: Global, octets: &[u8], at: usize) -> Result<Option<(PriceRecord, usize)>, NoMemory>
+fn record_at(
+    alloc: Global,
+    octets: &[u8],
+    at: usize,
+) -> Result<Option<(PriceRecord, usize)>, NoMemory>
     requires { at < length octets.now }
     ensures { IfOk result (λ o. MatchOption o (NoRecord octets.now at) (λ r. ReadsRecord octets.now at r.0 r.1)) }
 {
@@ -192,8 +204,8 @@ pub fn read_prices(alloc: Global, bytes: &[u8]) -> Result<Vec<PriceRecord>, Pric
     while at < bytes.len() {
         match record_at(alloc, bytes, at)? {
             None => return Err(PricesError::Fault { offset: at }),
-            Some((record, end)) => {
-                records.push(record)?;
+            Some((found, end)) => {
+                records.push(found)?;
                 at = end;
             }
         }

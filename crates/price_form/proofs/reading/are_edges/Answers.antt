@@ -19,10 +19,12 @@ pub returns : goal.returns
 returns c =
     let edges = c.args.edges.now in
     let done = c.loop-i-test.false in
-    let h = c.loop-i.invariant in
-    ((λ t. record {
-      rising = λ a b lt in'. h.rising a b lt (omega (arith, in', done));
-      plots = all_edges edges (λ e. e.0 < c.args.plots) c.loop-i.i done h.plots;
-      tracks = all_edges edges (λ e. e.1 < c.args.tracks) c.loop-i.i done h.tracks;
-      costs = all_edges edges (λ e. e.2 ≤ 4096) c.loop-i.i done h.costs;
-    }), (λ p. refl))
+    let h = c.loop-i.invariant in (
+      (λ t. record {
+        rising = λ a b lt in'. h.rising a b lt (omega (arith, in', done));
+        plots = all_edges edges (λ e. e.0 < c.args.plots) c.loop-i.i done h.plots;
+        tracks = all_edges edges (λ e. e.1 < c.args.tracks) c.loop-i.i done h.tracks;
+        costs = all_edges edges (λ e. e.2 ≤ 4096) c.loop-i.i done h.costs;
+      }),
+      (λ p. refl),
+    )
