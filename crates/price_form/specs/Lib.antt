@@ -3,3 +3,4 @@ pub mod Checks
 pub mod Octets
 pub mod Spelling
 pub mod Files
+pub mod Reading

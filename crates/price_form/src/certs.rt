@@ -42,12 +42,22 @@ pub enum PricesError {
 }
 
 impl From<NoMemory> for PricesError {
+    ghost use Rattle.std.specs.Prelude.{◌≡◌};
+    ghost use Rattle.price_form.specs.declared.certs.PricesError.TheVariants.{NoMemory as Wanting};
+
+    ghost from_gives = { λ _ e. e ≡ Wanting };
+
     fn from(_: NoMemory) -> PricesError {
         PricesError::NoMemory
     }
 }
 
 impl<T: Drop> From<AllocFailed<T>> for PricesError {
+    ghost use Rattle.std.specs.Prelude.{◌≡◌};
+    ghost use Rattle.price_form.specs.declared.certs.PricesError.TheVariants.{NoMemory as Wanting};
+
+    ghost from_gives = { λ _ e. e ≡ Wanting };
+
     fn from(_: AllocFailed<T>) -> PricesError {
         PricesError::NoMemory
     }

@@ -42,7 +42,12 @@ pub(crate) fn word_at(octets: &[u8], at: usize) -> u64
 }
 
 /// The numbers of eight octets from a place on.
-pub(crate) fn words_at(alloc: Global, octets: &[u8], at: usize, count: usize) -> Result<Vec<u64>, NoMemory>
+pub(crate) fn words_at(
+    alloc: Global,
+    octets: &[u8],
+    at: usize,
+    count: usize,
+) -> Result<Vec<u64>, NoMemory>
     requires { at + count * 8 ≤ length octets.now }
     ensures { IfOk result (λ v. v.items ≡ many_at word_at 8 octets.now at count) }
 {
@@ -54,7 +59,12 @@ pub(crate) fn words_at(alloc: Global, octets: &[u8], at: usize, count: usize) ->
 }
 
 /// The prices from a place on.
-pub(crate) fn prices_at(alloc: Global, octets: &[u8], at: usize, count: usize) -> Result<Vec<i64>, NoMemory>
+pub(crate) fn prices_at(
+    alloc: Global,
+    octets: &[u8],
+    at: usize,
+    count: usize,
+) -> Result<Vec<i64>, NoMemory>
     requires { at + count * 8 ≤ length octets.now }
     ensures { IfOk result (λ v. v.items ≡ many_at price_number_at 8 octets.now at count) }
 {
@@ -66,27 +76,48 @@ pub(crate) fn prices_at(alloc: Global, octets: &[u8], at: usize, count: usize) -
 }
 
 /// The edges from a place on.
-pub(crate) fn edges_at(alloc: Global, octets: &[u8], at: usize, count: usize) -> Result<Vec<(u32, u32, u16)>, NoMemory>
+pub(crate) fn edges_at(
+    alloc: Global,
+    octets: &[u8],
+    at: usize,
+    count: usize,
+) -> Result<Vec<(u32, u32, u16)>, NoMemory>
     requires { at + count * 10 ≤ length octets.now }
     ensures { IfOk result (λ v. v.items ≡ many_at edge_numbers_at 10 octets.now at count) }
 {
     let mut edges = Vec::with_capacity(alloc, count)?;
     for i in 0..count {
         let edge = at + i * 10;
-        edges.push((half_at(octets, edge), half_at(octets, edge + 4), short_at(octets, edge + 8)))?;
+        edges.push((
+            half_at(octets, edge),
+            half_at(octets, edge + 4),
+            short_at(octets, edge + 8),
+        ))?;
     }
     Ok(edges)
 }
 
+fn entry_at(octets: &[u8], at: usize) -> Option<u32>
+    requires { at + 4 ≤ length octets.now }
+    ensures { result ≡ entry_number_at octets.now at }
+{
+    let track = half_at(octets, at);
+    if track == NONE { None } else { Some(track) }
+}
+
 /// The places of tracks, or none, from a place on.
-pub(crate) fn entries_at(alloc: Global, octets: &[u8], at: usize, count: usize) -> Result<Vec<Option<u32>>, NoMemory>
+pub(crate) fn entries_at(
+    alloc: Global,
+    octets: &[u8],
+    at: usize,
+    count: usize,
+) -> Result<Vec<Option<u32>>, NoMemory>
     requires { at + count * 4 ≤ length octets.now }
     ensures { IfOk result (λ v. v.items ≡ many_at entry_number_at 4 octets.now at count) }
 {
     let mut entries = Vec::with_capacity(alloc, count)?;
     for i in 0..count {
-        let track = half_at(octets, at + i * 4);
-        entries.push(if track == NONE { None } else { Some(track) })?;
+        entries.push(entry_at(octets, at + i * 4))?;
     }
     Ok(entries)
 }

@@ -1,6 +1,8 @@
-ghost use Rattle.std.specs.Prelude.{◌≡◌, ◌<◌, ◌≤◌, ◌+◌, ◌*◌, ◌↔◌, ◌^◌, ℕ, List, IsTrue, MatchOption, MatchResult, IfSome, IfOk, All, length};
+ghost use Rattle.std.specs.Prelude.{◌≡◌, ◌<◌, ◌≤◌, ◌-◌, ◌↔◌, ◌^◌, ℕ, List, IsTrue, MatchOption, MatchResult, IfSome, IfOk, All, length};
 ghost use Rattle.assignment_dual.specs.Problems.{IsProblem};
 ghost use Rattle.price_form.specs.declared.certs.PriceRecord.{PriceRecord};
+ghost use Rattle.assignment_dual.specs.Problems.{EdgeBefore, edge_at};
+ghost use Rattle.price_form.specs.Reading.{end_of, HasCounts, ReadsNone, ReadsCert, NoRecord, ReadsRecord};
 ghost use Rattle.price_form.specs.Files.{ArePrices, IsFault, IfFault};
 
 use crate::numbers::{edges_at, entries_at, half_at, prices_at, word_at, words_at};
@@ -23,19 +25,33 @@ struct Counts {
     edges: u32,
 }
 
-/// The counts of the certificate at a place, if its octets aren't cut short, and where they end.
-fn counts_at(octets: &[u8], at: usize) -> Option<Counts> {
+/// The counts of the certificate at a place, if they can be those of one and its octets aren't cut
+/// short.
+fn counts_at(octets: &[u8], at: usize) -> Option<Counts>
+    requires { at ≤ length octets.now }
+    ensures { MatchOption result (ReadsNone octets.now at) (HasCounts octets.now at) }
+{
     if octets.len() - at < 18 {
         return None;
     }
     let plots = half_at(octets, at + 10);
     let tracks = half_at(octets, at + 14);
+    if plots == 0 {
+        return None;
+    }
+    if tracks == u32::MAX {
+        return None;
+    }
     let numbers = at + 18 + plots as usize * 8 + tracks as usize * 8;
     if octets.len() < numbers + 4 {
         return None;
     }
     let edges = half_at(octets, numbers);
-    let counts = Counts { plots, tracks, edges };
+    let counts = Counts {
+        plots,
+        tracks,
+        edges,
+    };
     if octets.len() < counts.end(at) {
         return None;
     }
@@ -44,30 +60,55 @@ fn counts_at(octets: &[u8], at: usize) -> Option<Counts> {
 
 impl Counts {
     /// Where a certificate of these counts ends that begins at a place.
-    fn end(self, at: usize) -> usize {
+    fn end(self, at: usize) -> usize
+        requires { at < 2 ^ 63 }
+        ensures { result ≡ end_of self.plots self.tracks self.edges at }
+    {
         at + 22 + self.plots as usize * 20 + self.tracks as usize * 16 + self.edges as usize * 10
     }
 }
 
+/// Whether an edge stands before another, by its plot, then by its track.
+fn is_before(edge: (u32, u32, u16), other: (u32, u32, u16)) -> bool
+    ensures { IsTrue result ↔ EdgeBefore edge other }
+{
+    edge.0 < other.0 || (edge.0 == other.0 && edge.1 < other.1)
+}
+
+/// Whether an edge's places are in range, and its cost is.
+fn is_edge(edge: (u32, u32, u16), plots: u32, tracks: u32) -> bool
+    ensures { IsTrue result ↔ ((edge.0 < plots) × (edge.1 < tracks) × (edge.2 ≤ 4096)) }
+{
+    edge.0 < plots && edge.1 < tracks && edge.2 <= MOST
+}
+
+/// Whether the edge at a place stands behind the one before it.
+fn follows(edges: &[(u32, u32, u16)], i: usize) -> bool
+    requires { i < length edges.now }
+    ensures { IsTrue result ↔ (0 < i → EdgeBefore (edge_at edges.now (i - 1)) (edge_at edges.now i)) }
+{
+    i == 0 || is_before(edges[i - 1], edges[i])
+}
+
 /// Whether edges strictly rise, their places are in range and their costs are at most 4,096.
-fn are_edges(edges: &[(u32, u32, u16)], plots: u32, tracks: u32) -> bool {
-    let mut last: Option<(u32, u32)> = None;
-    for (plot, track, cost) in edges {
-        if *plot >= plots || *track >= tracks || *cost > MOST {
+fn are_edges(edges: &[(u32, u32, u16)], plots: u32, tracks: u32) -> bool
+    ensures { IsTrue result ↔ IsProblem (record { plots = plots; tracks = tracks; edges = edges.now }) }
+{
+    for (i, edge) in edges.iter().enumerate() {
+        if !is_edge(*edge, plots, tracks) {
             return false;
         }
-        if let Some((before, with)) = last
-            && (*plot < before || (*plot == before && *track <= with))
-        {
+        if !follows(edges, i) {
             return false;
         }
-        last = Some((*plot, *track));
     }
     true
 }
 
 /// Whether each track that is named is below a number.
-fn name_below(pairing: &[Option<u32>], tracks: u32) -> bool {
+fn name_below(pairing: &[Option<u32>], tracks: u32) -> bool
+    ensures { IsTrue result ↔ All (λ x. IfSome x (λ t. t < tracks)) pairing.now }
+{
     for entry in pairing {
         if let Some(track) = entry
             && *track >= tracks
@@ -79,19 +120,26 @@ fn name_below(pairing: &[Option<u32>], tracks: u32) -> bool {
 }
 
 /// The certificate at a place, if there is one, and where it ends.
-fn cert_at(alloc: Global, octets: &[u8], at: usize) -> Result<Option<(Cert, usize)>, NoMemory> {
+fn cert_at(alloc: Global, octets: &[u8], at: usize) -> Result<Option<(Cert, usize)>, NoMemory>
+    requires { at ≤ length octets.now }
+    ensures { IfOk result (λ o. MatchOption o (ReadsNone octets.now at) (λ r. ReadsCert octets.now at r.0 r.1)) }
+{
     let counts = match counts_at(octets, at) {
         None => return Ok(None),
         Some(counts) => counts,
     };
-    let (n, k, m) = (counts.plots as usize, counts.tracks as usize, counts.edges as usize);
-    if n == 0 || counts.tracks == u32::MAX {
-        return Ok(None);
-    }
+    let (n, k, m) = (
+        counts.plots as usize,
+        counts.tracks as usize,
+        counts.edges as usize,
+    );
     let edges_from = at + 22 + n * 8 + k * 8;
     let edges = edges_at(alloc, octets, edges_from, m)?;
     let pairing = entries_at(alloc, octets, edges_from + m * 10, n)?;
-    if !are_edges(&edges, counts.plots, counts.tracks) || !name_below(&pairing, counts.tracks) {
+    if !are_edges(&edges, counts.plots, counts.tracks) {
+        return Ok(None);
+    }
+    if !name_below(&pairing, counts.tracks) {
         return Ok(None);
     }
     let prices_from = edges_from + m * 10 + n * 4;
@@ -113,7 +161,14 @@ fn cert_at(alloc: Global, octets: &[u8], at: usize) -> Result<Option<(Cert, usiz
 }
 
 /// The record at a place, if there is one, and where it ends.
-fn record_at(alloc: Global, octets: &[u8], at: usize) -> Result<Option<(PriceRecord, usize)>, NoMemory> {
+fn record_at(
+    alloc: Global,
+    octets: &[u8],
+    at: usize,
+) -> Result<Option<(PriceRecord, usize)>, NoMemory>
+    requires { at < length octets.now }
+    ensures { IfOk result (λ o. MatchOption o (NoRecord octets.now at) (λ r. ReadsRecord octets.now at r.0 r.1)) }
+{
     match octets[at] {
         1 => {
             if octets.len() - at < 17 {
@@ -149,8 +204,8 @@ pub fn read_prices(alloc: Global, bytes: &[u8]) -> Result<Vec<PriceRecord>, Pric
     while at < bytes.len() {
         match record_at(alloc, bytes, at)? {
             None => return Err(PricesError::Fault { offset: at }),
-            Some((record, end)) => {
-                records.push(record)?;
+            Some((found, end)) => {
+                records.push(found)?;
                 at = end;
             }
         }

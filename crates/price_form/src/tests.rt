@@ -40,8 +40,20 @@ fn refuses_another_price(rt: HostRuntime) {
 
 #[test]
 fn tells_the_first_fault(rt: HostRuntime) {
-    assert_eq!(rt; read_prices(rt.alloc(), &ONE[..3]).err(), Some(PricesError::Fault { offset: 0 }));
-    assert_eq!(rt; read_prices(rt.alloc(), &ONE[..62]).err(), Some(PricesError::Fault { offset: 21 }));
-    assert_eq!(rt; read_prices(rt.alloc(), &ONE[..20]).err(), Some(PricesError::Fault { offset: 4 }));
-    assert_eq!(rt; read_prices(rt.alloc(), &ONE[..21]).map(|records| records.len()), Ok(1));
+    assert_eq!(rt;
+        read_prices(rt.alloc(), &ONE[..3]).err(),
+        Some(PricesError::Fault { offset: 0 })
+    );
+    assert_eq!(rt;
+        read_prices(rt.alloc(), &ONE[..62]).err(),
+        Some(PricesError::Fault { offset: 21 })
+    );
+    assert_eq!(rt;
+        read_prices(rt.alloc(), &ONE[..20]).err(),
+        Some(PricesError::Fault { offset: 4 })
+    );
+    assert_eq!(rt;
+        read_prices(rt.alloc(), &ONE[..21]).map(|records| records.len()),
+        Ok(1)
+    );
 }

@@ -75,8 +75,24 @@ pub fn write_cert(alloc: Global, cert: &Cert) -> Result<Vec<u8>, NoMemory>
     ensures { IfOk result (λ v. v.items ≡ cert_octets cert.now) }
 {
     let mut out = Vec::new(alloc);
-    put_head(&mut out, cert.slot, cert.radar, cert.costs.plots, cert.costs.tracks)?;
-    put_gates(&mut out, cert.plots.as_slice(), cert.tracks.as_slice(), cert.costs.edges.as_slice())?;
-    put_proof(&mut out, cert.pairing.as_slice(), cert.u.as_slice(), cert.v.as_slice())?;
+    put_head(
+        &mut out,
+        cert.slot,
+        cert.radar,
+        cert.costs.plots,
+        cert.costs.tracks,
+    )?;
+    put_gates(
+        &mut out,
+        cert.plots.as_slice(),
+        cert.tracks.as_slice(),
+        cert.costs.edges.as_slice(),
+    )?;
+    put_proof(
+        &mut out,
+        cert.pairing.as_slice(),
+        cert.u.as_slice(),
+        cert.v.as_slice(),
+    )?;
     Ok(out)
 }
