@@ -33,7 +33,7 @@ back_gates s (row ∷ rows) (Some t ∷ ys) g =
     let d : t ≢ s = λ e. absurd (let z : is_some (without (Some s) row t) ≡ false = ap is_some (without_taken s row t e) in let y : is_some (without (Some s) row t) ≡ true = g.0 in cc) in
     ((sym (ap is_some (without_other s row t d)) ∙ g.0, (back_gates s rows ys g.1).0), ((λ e. d (cc)), (back_gates s rows ys g.1).1))
 
-rest_none : (rows : List Row) → rest None rows ≡ rows
+pub rest_none : (rows : List Row) → rest None rows ≡ rows
 rest_none [] = refl
 rest_none (row ∷ rows) = ap (λ (r : List Row). row ∷ r) (rest_none rows)
 
@@ -57,7 +57,7 @@ entry_order None (Some t) = inr (inr tt)
 entry_order (Some s) None = inl tt
 entry_order (Some s) (Some t) = elim (cases_order s t) [ inl e ↦ inr (inl (ap Some e)) | inr h ↦ elim h [ inl a ↦ inl a | inr b ↦ inr (inr b) ] ]
 
-least_cost : {rows : List Row} {xs : List (Option ℕ)} → IsLeast rows xs → (ys : List (Option ℕ)) → IsPairing rows ys → cost rows xs ≤ cost rows ys
+pub least_cost : {rows : List Row} {xs : List (Option ℕ)} → IsLeast rows xs → (ys : List (Option ℕ)) → IsPairing rows ys → cost rows xs ≤ cost rows ys
 least_cost l ys p = elim (l.first ys p) [ inl h ↦ omega (arith, h) | inr h ↦ omega (arith, h.0) ]
 
 against : (row : Row) (rows : List Row) (x : Option ℕ) (n : ℕ) (xs ys : List (Option ℕ)) → IsFirstChoice row rows x n → IsLeast (rest x rows) xs → IsPairing (row ∷ rows) ys

@@ -8,3 +8,12 @@ pub mod Trees
 pub mod Paths
 pub mod Shifts
 pub mod Adding
+pub mod Resting
+pub mod Rests
+pub mod Fixing
+pub mod Value
+pub mod Choices
+pub mod Candidates
+pub mod Prefixes
+pub mod Building
+pub mod Answer

@@ -90,7 +90,7 @@ above_sum (pos m) (pos n) c h = omega (arith, ints, h)
 above_sum (pos m) (negsuc n) c h = omega (arith, ints, h)
 above_sum (negsuc m) v c h = omega arith
 
-length_map : {A B : Type 0} (f : A → B) (xs : List A) → length (map f xs) ≡ length xs
+pub length_map : {A B : Type 0} (f : A → B) (xs : List A) → length (map f xs) ≡ length xs
 length_map f [] = refl
 length_map f (x ∷ xs) = ap suc (length_map f xs)
 

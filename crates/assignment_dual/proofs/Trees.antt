@@ -26,7 +26,7 @@ push_cases tree a P old new i h = elim (cases_lt i (length tree)) [
   | inr l ↦
       let e : i ≡ length tree = omega (arith, h, l, push_length tree a) in
       subst (λ (j : ℕ). P j (get_or (tree ++ a ∷ []) j no_node)) (sym e) (subst (P (length tree)) (sym (push_new tree a)) new)
-  ]
+]
 
 -- the root is no vertex that is seen
 pub root_apart : {g : Graph} {n : ℕ} {qs ms : List ℕ} {seen : List Bool} {tree : List Node} {x : ℕ} → IsSearchTree g n qs ms seen tree x → (i : ℕ) → 0 < i → i < length tree → vertex_at tree i ≢ x
@@ -56,24 +56,24 @@ tree_pushed {g} {n} {qs} {ms} {seen} {tree} {x} {y} {at} t l h k u ta ac =
       within = push_cases tree a (λ i o. o.vertex < n) t.within k;
       earlier = λ i p j. push_cases tree a (λ i o. 0 < i → o.from < i) (λ i q p. t.earlier i p q) (λ p. h) i j p;
       tight = λ i p j. push_cases tree a (λ i o. 0 < i → Tight g qs (mate_at ms (tree ++ a ∷ []) o.from) o.vertex)
-        (λ i q p. subst (λ (v : ℕ). Tight g qs (get_or ms v 0) (vertex_at tree i)) (sym (old (from_at tree i) (omega (arith, t.earlier i p q, q)))) (t.tight i p q))
-        (λ p. subst (λ (v : ℕ). Tight g qs (get_or ms v 0) y) (sym (old at h)) ta) i j p;
+          (λ i q p. subst (λ (v : ℕ). Tight g qs (get_or ms v 0) (vertex_at tree i)) (sym (old (from_at tree i) (omega (arith, t.earlier i p q, q)))) (t.tight i p q))
+          (λ p. subst (λ (v : ℕ). Tight g qs (get_or ms v 0) y) (sym (old at h)) ta) i j p;
       marked = λ i p j. push_cases tree a (λ i o. 0 < i → get_or (set seen y true) o.vertex false ≡ true) (λ i q p. seen_kept seen y _ yl (t.marked i p q)) (λ p. get_or-set_same seen y true false yl) i j p;
       distinct = λ i j p q r.
-        let il : i < length tree = omega (arith, q, r, len) in
-        elim (cases_lt j (length tree)) [
-          | inl jl ↦ (λ e. t.distinct i j p q jl (sym (old i il) ∙ e ∙ old j jl))
-          | inr jl ↦
-              let je : j ≡ length tree = omega (arith, r, jl, len) in
-              (λ e. fresh i p il (sym (old i il) ∙ e ∙ ap (vertex_at (tree ++ a ∷ [])) je ∙ new))
+          let il : i < length tree = omega (arith, q, r, len) in
+          elim (cases_lt j (length tree)) [
+            | inl jl ↦ (λ e. t.distinct i j p q jl (sym (old i il) ∙ e ∙ old j jl))
+            | inr jl ↦
+                let je : j ≡ length tree = omega (arith, r, jl, len) in
+                (λ e. fresh i p il (sym (old i il) ∙ e ∙ ap (vertex_at (tree ++ a ∷ [])) je ∙ new))
           ];
       known = λ v s. elim (seen_set seen y v s) [
         | inl e ↦ (length tree, t.some, omega (arith, len), new ∙ sym e)
         | inr s ↦
             let o : (i : ℕ) × (0 < i) × (i < length tree) × (vertex_at tree i ≡ v) = t.known v s in
             (o.0, o.1, omega (arith, o.2, len), old o.0 o.2 ∙ o.3)
-        ];
-      across = across_set t.across ac
+      ];
+      across = across_set t.across ac;
     }
 
 pub goes_on_same : (tree : List Node) → GoesOn tree tree
@@ -88,7 +88,7 @@ goes_on_then {tree} {mid} {new} a b = record { longer = omega (arith, a.longer, 
 pub paired_pushed : {ms : List ℕ} {tree : List Node} {y : ℕ} (at : ℕ) → ArePaired ms tree (length tree) → get_or ms y 0 ≢ y
     → ArePaired ms (tree ++ (record { vertex = y; from = at }) ∷ []) (length (tree ++ (record { vertex = y; from = at }) ∷ []))
 paired_pushed {ms} {tree} {y} at p m = record {
-  paired = λ i q j. push_cases tree (record { vertex = y; from = at }) (λ i o. 0 < i → get_or ms o.vertex 0 ≢ o.vertex) (λ i l k. p.paired i k l) (λ k. m) i j q
+  paired = λ i q j. push_cases tree (record { vertex = y; from = at }) (λ i o. 0 < i → get_or ms o.vertex 0 ≢ o.vertex) (λ i l k. p.paired i k l) (λ k. m) i j q;
 }
 
 -- the new node is alone, and pays for it
@@ -100,7 +100,7 @@ end_pushed {qs} {ms} {tree} {y} at p m f =
     record {
       inside = omega (arith, push_length tree a);
       before = record { paired = λ i q j. let e : vertex_at (tree ++ a ∷ []) i ≡ vertex_at tree i = ap (λ (o : Node). o.vertex) (push_old tree a i j) in (λ z. p.paired i q j (ap (λ (v : ℕ). get_or ms v 0) (sym e) ∙ z ∙ e)) };
-      pays = ap (λ (v : ℕ). get_or qs (get_or ms v 0) 0) new ∙ ap (λ (v : ℕ). get_or qs v 0) m ∙ f
+      pays = ap (λ (v : ℕ). get_or qs (get_or ms v 0) 0) new ∙ ap (λ (v : ℕ). get_or qs v 0) m ∙ f;
     }
 
 -- the arcs of x, the mate of a node, before k are swept
@@ -136,7 +136,7 @@ opened {g} {qs} {ms} {first_seen} {seen} {first} {tree} {x} {k} {y} {at} gr am a
       kept = λ v q. seen_kept seen y v (omega (arith, yl, s.count)) (s.kept v q);
       front = goes_on_pushed first tree a s.front;
       grown = omega (arith, un, push_length tree a, s.grown);
-      side = side
+      side = side;
     }
 
 -- y is alone and pays for it
@@ -155,15 +155,20 @@ sweeping_opened {g} {qs} {ms} {first_seen} {seen} {first} {tree} {x} {k} {y} {at
       front = o.front;
       grown = o.grown;
       from = omega (arith, s.from);
-      arcs = arcs_next g qs seen (set seen y true) x k (λ v q. seen_kept seen y v ys q) s.arcs (λ q. ap (λ (v : ℕ). get_or (set seen y true) v false) ta.to ∙ get_or-set_same seen y true false ys)
+      arcs = arcs_next g qs seen (set seen y true) x k (λ v q. seen_kept seen y v ys q) s.arcs (λ q. ap (λ (v : ℕ). get_or (set seen y true) v false) ta.to ∙ get_or-set_same seen y true false ys);
     }
 
 pub sweeping_closed : {g : Graph} {qs ms : List ℕ} {first_seen seen : List Bool} {first tree : List Node} {x k : ℕ} → Sweeping g qs ms first_seen seen first tree x k
     → (get_or qs x 0 + get_or qs (to_of g k) 0 ≡ cost_at g k + MISS → get_or seen (to_of g k) false ≡ true) → Sweeping g qs ms first_seen seen first tree x (k + 1)
 sweeping_closed {g} {qs} {ms} {first_seen} {seen} {first} {tree} {x} {k} s h = record {
-  search = s.search; count = s.count; paired = s.paired; kept = s.kept; front = s.front; grown = s.grown;
+  search = s.search;
+  count = s.count;
+  paired = s.paired;
+  kept = s.kept;
+  front = s.front;
+  grown = s.grown;
   from = omega (arith, s.from);
-  arcs = arcs_next g qs seen seen x k (λ v q. q) s.arcs h
+  arcs = arcs_next g qs seen seen x k (λ v q. q) s.arcs h;
 }
 
 -- the nodes before `next` are swept
@@ -191,5 +196,5 @@ growing_next {g} {qs} {ms} {first_seen} {seen} {new} {first} {tree} {then} {next
         | inr q ↦
             let e : i ≡ next = omega (arith, q, j) in
             subst (IsSwept g qs new) (sym (at i (omega (arith, e, h)) ∙ ap (mate_at ms tree) e)) a.1
-        ]
+      ];
     }

@@ -18,7 +18,7 @@ pub across_thrice : {p x y z v : ℕ} → Across p x y → Across p y z → Acro
 across_thrice a b d = elim a.sides [
   | inl h ↦ elim b.sides [ inl k ↦ absurd (omega (arith, h.1, k.0)) | inr k ↦ elim d.sides [ inl j ↦ record { sides = inl (k.1, j.1) } | inr j ↦ absurd (omega (arith, h.0, j.0)) ] ]
   | inr h ↦ elim b.sides [ inl k ↦ elim d.sides [ inl j ↦ absurd (omega (arith, h.0, j.0)) | inr j ↦ record { sides = inr (k.1, j.1) } ] | inr k ↦ absurd (omega (arith, h.1, k.0)) ]
-  ]
+]
 
 pub by_turn : (P : ℕ → ℕ → Type 0) {ms new : List ℕ} {x y z : ℕ} → AreTurned ms new x y z → P x y → P y x → (z ≢ y → P z z)
     → ((v : ℕ) → v ≢ x → v ≢ y → v ≢ z → P v (get_or ms v 0)) → (v : ℕ) → P v (get_or new v 0)
@@ -26,13 +26,13 @@ by_turn P {ms} {new} {x} {y} {z} t a b d o v =
     elim (cases_eq v x) [
       | inl e ↦ subst (λ (i : ℕ). P i (get_or new i 0)) (sym e) (subst (P x) (sym t.x_is) a)
       | inr n ↦ elim (cases_eq v y) [
-          | inl e ↦ subst (λ (i : ℕ). P i (get_or new i 0)) (sym e) (subst (P y) (sym t.y_is) b)
-          | inr m ↦ elim (cases_eq v z) [
-              | inl e ↦ subst (λ (i : ℕ). P i (get_or new i 0)) (sym e) (subst (P z) (sym (t.z_is (λ q. m (e ∙ q)))) (d (λ q. m (e ∙ q))))
-              | inr k ↦ subst (P v) (sym (t.others v n m k)) (o v n m k)
-              ]
-          ]
+        | inl e ↦ subst (λ (i : ℕ). P i (get_or new i 0)) (sym e) (subst (P y) (sym t.y_is) b)
+        | inr m ↦ elim (cases_eq v z) [
+          | inl e ↦ subst (λ (i : ℕ). P i (get_or new i 0)) (sym e) (subst (P z) (sym (t.z_is (λ q. m (e ∙ q)))) (d (λ q. m (e ∙ q))))
+          | inr k ↦ subst (P v) (sym (t.others v n m k)) (o v n m k)
+        ]
       ]
+    ]
 
 pub back_arc : {g : Graph} {qs : List ℕ} {x y k : ℕ} → TightArc g qs x y k → (j : ℕ) × GoesBack g x k j → Tight g qs y x
 back_arc {g} {qs} {x} {y} {k} t b = (b.0, record { arc = subst (λ (i : ℕ). HasArc g i b.0) t.to b.1.arc; to = b.1.to; exact = omega (arith, t.exact, b.1.cost) })
@@ -49,12 +49,12 @@ turned_mates {g} {n} {qs} {ms} {new} {x} {y} {z} {k} gr am t hx e hz ta =
       count = t.count ∙ am.count;
       within = by_turn (λ v w. v < n → w < n) t (λ h. hy) (λ h. hx) (λ d h. zn) (λ v i j l h. am.within v h);
       back = by_turn (λ v w. v < n → get_or new w 0 ≡ v) t (λ h. t.y_is) (λ h. t.x_is) (λ d h. t.z_is d)
-        (λ v i j l h. t.others (get_or ms v 0)
+          (λ v i j l h. t.others (get_or ms v 0)
           (λ q. i (sym (am.back v h) ∙ ap (λ (o : ℕ). get_or ms o 0) q ∙ e))
           (λ q. l (sym (am.back v h) ∙ ap (λ (o : ℕ). get_or ms o 0) q ∙ sym hz))
           (λ q. j (sym (am.back v h) ∙ ap (λ (o : ℕ). get_or ms o 0) q ∙ zy))
           ∙ am.back v h);
-      tight = by_turn (λ v w. v < n → w ≢ v → Tight g qs v w) t (λ h d. (k, ta)) (λ h d. back_arc ta a.back) (λ d h m. absurd (m refl)) (λ v i j l h d. am.tight v h d)
+      tight = by_turn (λ v w. v < n → w ≢ v → Tight g qs v w) t (λ h d. (k, ta)) (λ h d. back_arc ta a.back) (λ d h m. absurd (m refl)) (λ v i j l h d. am.tight v h d);
     }
 
 -- Vertices that are seen.
@@ -65,7 +65,7 @@ pub seen_kept : (seen : List Bool) (y v : ℕ) → y < length seen → get_or se
 seen_kept seen y v l h = elim (cases_eq v y) [
   | inl e ↦ ap (λ (i : ℕ). get_or (set seen y true) i false) e ∙ get_or-set_same seen y true false l
   | inr n ↦ get_or-set_other seen y v true false n ∙ h
-  ]
+]
 
 not_counted : (b : Bool) → b ≡ false → cond {A = ℕ} (not b) 1 0 ≡ 1
 not_counted true h = absurd (cc)
@@ -101,4 +101,4 @@ arcs_next g qs seen new x k more before here j a l t = elim (cases_lt j k) [
   | inr b ↦
       let e : j ≡ k = omega arith in
       subst (λ (i : ℕ). get_or qs x 0 + get_or qs (to_of g i) 0 ≡ cost_at g i + MISS → get_or new (to_of g i) false ≡ true) (sym e) here t
-  ]
+]

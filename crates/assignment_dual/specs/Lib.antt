@@ -4,3 +4,6 @@ pub mod First
 pub mod Vertices
 pub mod Search
 pub mod Rising
+pub mod Rests
+pub mod Choices
+pub mod Graphs

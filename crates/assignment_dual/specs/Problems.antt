@@ -1,7 +1,7 @@
 -- The assignment problem of a batch, and prices that prove a pairing of it.
-use Rattle.std.specs.Prelude.{◌≡◌, ◌<◌, ◌≤◌, ◌⊎◌, ℕ, ◌==◌, ◌&&◌, ℤ, pos, ◌+ℤ◌, ◌≤ℤ◌, List, [], ◌∷◌, Option, Some, None, if◌then◌else◌, length, get_or, map}
+use Rattle.std.specs.Prelude.{◌≡◌, ◌<◌, ◌≤◌, ◌⊎◌, ℕ, ◌==◌, ◌&&◌, ℤ, pos, ◌+ℤ◌, ◌≤ℤ◌, List, [], ◌∷◌, Option, Some, None, IfSome, if◌then◌else◌, length, get_or, map}
 use Rattle.std.specs.List.{All, fold, range_with_len}
-use Rattle.assignment_dual.specs.Pairings.{Row, MISS, IsPairing, cost}
+use Rattle.assignment_dual.specs.Pairings.{Row, MISS, IsPairing, IsLeast, cost}
 
 -- the place of a plot, the place of a track that gates it, and the cost of the gate
 abbrev pub Edge : Type 0
@@ -52,3 +52,10 @@ pub record Proves (p : Problem) (xs : List (Option ℕ)) (us vs : List ℤ) : Ty
   pub below_zero : All (λ v. v ≤ℤ pos 0) vs
   pub below_cost : All (λ e. (price_at us e.0 +ℤ price_at vs e.1) ≤ℤ pos e.2) p.edges
   pub equal : total us +ℤ total vs ≡ pos (cost (rows_of p) xs)
+
+-- the least pairing, its cost, and prices that prove it
+pub record IsSolvedBy (p : Problem) (xs : List (Option ℕ)) (us vs : List ℤ) (c : ℤ) : Type 0 where
+  pub least : IsLeast (rows_of p) xs
+  pub worth : c ≡ pos (cost (rows_of p) xs)
+  pub proves : Proves p xs us vs
+  pub tracks : All (λ x. IfSome x (λ t. t < p.tracks)) xs

@@ -1,5 +1,8 @@
 //! A vertex is taken out, or comes back.
 
+ghost use Rattle.std.specs.Prelude.{◌≡◌, ◌<◌, length, get_or, true, false, slice_set, OnOk};
+ghost use Rattle.assignment_dual.specs.Vertices.{IsGraph, AreResting};
+
 use crate::graph::Graph;
 use crate::place::settle;
 use crate::search::{Node, part};
@@ -14,7 +17,16 @@ pub fn take_out(
     tree: &mut Vec<Node>,
     gone: &mut [bool],
     x: usize,
-) -> Result<(), NoMemory> {
+) -> Result<(), NoMemory>
+    requires graph { IsGraph graph.now (length prices.old) }
+    requires resting { AreResting graph.now (length prices.old) prices.old mates.old gone.old }
+    requires seen { length seen.old ≡ length prices.old }
+    requires count { length gone.old ≡ length prices.old }
+    requires x { x < length prices.old }
+    requires here { get_or gone.old x false ≡ false }
+    ensures gone { OnOk result (gone.new ≡ slice_set gone.old x true) }
+    ensures resting { OnOk result (AreResting graph.now (length prices.old) prices.new mates.new gone.new) }
+{
     gone[x] = true;
     prices[x] = 0;
     let y = part(mates, x);
@@ -33,7 +45,16 @@ pub fn put_back(
     tree: &mut Vec<Node>,
     gone: &mut [bool],
     x: usize,
-) -> Result<(), NoMemory> {
+) -> Result<(), NoMemory>
+    requires graph { IsGraph graph.now (length prices.old) }
+    requires resting { AreResting graph.now (length prices.old) prices.old mates.old gone.old }
+    requires seen { length seen.old ≡ length prices.old }
+    requires count { length gone.old ≡ length prices.old }
+    requires x { x < length prices.old }
+    requires away { get_or gone.old x false ≡ true }
+    ensures gone { OnOk result (gone.new ≡ slice_set gone.old x false) }
+    ensures resting { OnOk result (AreResting graph.now (length prices.old) prices.new mates.new gone.new) }
+{
     gone[x] = false;
     settle(graph, prices, mates, seen, tree, x)
 }

@@ -1,9 +1,5 @@
 //! Plots and tracks as vertices, with the arcs between them.
 
-use crate::Costs;
-use std::alloc::Global;
-use trk_base::NoMemory;
-
 /// One way along an edge.
 #[derive(Clone, Copy, PartialEq, Eq, PartialOrd, Ord)]
 pub struct Arc {
@@ -25,39 +21,4 @@ pub struct Graph {
     pub first: Vec<usize>,
     /// All arcs.
     pub arcs: Vec<Arc>,
-}
-
-/// Each edge both ways, in the order of the edges.
-fn both_ways(alloc: Global, costs: &Costs) -> Result<Vec<Arc>, NoMemory> {
-    let plots = costs.plots as usize;
-    let mut arcs = Vec::new(alloc);
-    for (plot, track, cost) in costs.edges.as_slice() {
-        let plot = *plot as usize;
-        let track = plots + *track as usize;
-        let cost = u32::from(*cost);
-        arcs.push(Arc {
-            from: plot,
-            to: track,
-            cost,
-        })?;
-        arcs.push(Arc {
-            from: track,
-            to: plot,
-            cost,
-        })?;
-    }
-    Ok(arcs)
-}
-
-/// The graph of an assignment problem.
-pub fn graph_of(alloc: Global, costs: &Costs) -> Result<Graph, NoMemory> {
-    let plots = costs.plots as usize;
-    let count = plots + costs.tracks as usize;
-    let mut arcs = both_ways(alloc, costs)?;
-    arcs.sort_unstable();
-    let mut first = Vec::new(alloc);
-    for vertex in 0..count + 1 {
-        first.push(arcs.partition_point(|arc| arc.from < vertex))?;
-    }
-    Ok(Graph { plots, first, arcs })
 }

@@ -7,6 +7,7 @@
 //! problems", Computing 38, 1987).
 #![tactic(auto)]
 
+mod build;
 mod costs;
 mod fix;
 mod graph;

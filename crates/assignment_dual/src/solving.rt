@@ -1,14 +1,116 @@
-ghost use Rattle.std.specs.Prelude.{◌≡◌, ◌<◌, pos, IfOk, IfSome};
-ghost use Rattle.std.specs.List.{All};
-ghost use Rattle.assignment_dual.specs.Pairings.{IsLeast, cost};
-ghost use Rattle.assignment_dual.specs.Problems.{rows_of, Proves};
+//! The least pairing, with its cost and its prices.
 
-use crate::graph::graph_of;
-use crate::search::ALONE;
-use crate::tie::{first_pairing, settled, sum_of};
+ghost use Rattle.std.specs.Prelude.{◌≡◌, ◌≤◌, ◌<◌, ◌^◌, ◌+◌, ◌*◌, ℕ, Bool, false, pos, ◌-ℤ◌, length, get_or, map, sum, IfOk, IfSome};
+ghost use Rattle.std.specs.List.{All};
+ghost use Rattle.assignment_dual.specs.Pairings.{MISS, IsLeast, cost};
+ghost use Rattle.assignment_dual.specs.Problems.{Problem, IsProblem, rows_of, Proves, IsSolvedBy};
+ghost use Rattle.assignment_dual.specs.Vertices.{IsGraph};
+ghost use Rattle.assignment_dual.specs.Rests.{ShowsRest};
+
+use crate::build::graph_of;
+use crate::graph::Graph;
+use crate::place::settle_all;
+use crate::search::{ALONE, Node};
+use crate::tie::{first_pairing, sum_of};
 use crate::{Costs, Solved};
 use std::alloc::Global;
 use trk_base::{NoMemory, Sequence};
+
+/// The first prices: the plots stand out at 0, and the tracks pay for being alone.
+fn first_prices(alloc: Global, plots: usize, count: usize) -> Result<Vec<u32>, NoMemory>
+    ensures count { IfOk result (λ prices. length prices.items ≡ count) }
+    ensures plots { IfOk result (λ prices. (v : ℕ) → v < plots → get_or prices.items v 0 ≡ 0) }
+    ensures tracks { IfOk result (λ prices. (v : ℕ) → plots ≤ v → v < count → get_or prices.items v 0 ≡ MISS) }
+{
+    let mut prices = Vec::new(alloc);
+    for vertex in 0..count {
+        prices.push(if vertex < plots { 0 } else { ALONE })?;
+    }
+    Ok(prices)
+}
+
+/// At first everyone is alone.
+fn first_mates(alloc: Global, count: usize) -> Result<Vec<usize>, NoMemory>
+    ensures count { IfOk result (λ mates. length mates.items ≡ count) }
+    ensures alone { IfOk result (λ mates. (v : ℕ) → v < count → get_or mates.items v 0 ≡ v) }
+{
+    let mut mates = Vec::new(alloc);
+    for vertex in 0..count {
+        mates.push(vertex)?;
+    }
+    Ok(mates)
+}
+
+/// The prices u of the plots.
+fn plot_prices(alloc: Global, prices: &[u32]) -> Result<Vec<i64>, NoMemory>
+    ensures { IfOk result (λ us. us.items ≡ map pos prices.now) }
+{
+    let mut us = Vec::new(alloc);
+    for price in prices {
+        us.push(i64::from(*price))?;
+    }
+    Ok(us)
+}
+
+/// The prices v of the tracks.
+fn track_prices(alloc: Global, prices: &[u32]) -> Result<Vec<i64>, NoMemory>
+    ensures { IfOk result (λ vs. vs.items ≡ map (λ q. pos q -ℤ pos MISS) prices.now) }
+{
+    let mut vs = Vec::new(alloc);
+    for price in prices {
+        vs.push(i64::from(*price) - i64::from(ALONE))?;
+    }
+    Ok(vs)
+}
+
+/// The cost that these prices prove: all of them, without what each track would pay alone.
+fn proven_cost(prices: &[u32], tracks: usize) -> i64
+    requires count { length prices.now < 2 ^ 40 }
+    requires small { (v : ℕ) → get_or prices.now v 0 ≤ MISS }
+    requires tracks { tracks ≤ length prices.now }
+    ensures { result ≡ pos (sum prices.now) -ℤ pos (MISS * tracks) }
+{
+    let alone = u64::from(ALONE) * tracks as u64;
+    sum_of(prices) as i64 - alone as i64
+}
+
+/// The answer: the vertices get their places, their prices are read, and then the first of the
+/// pairings that cost least.
+fn answer(
+    alloc: Global,
+    graph: &Graph,
+    prices: &mut [u32],
+    mates: &mut [usize],
+    seen: &mut [bool],
+    tree: &mut Vec<Node>,
+    gone: &mut [bool],
+) -> Result<Solved, NoMemory>
+    requires graph { IsGraph graph.now (length prices.old) }
+    requires plots { graph.now.plots ≤ length prices.old }
+    requires few { length prices.old < 2 ^ 40 }
+    requires tracks { length prices.old < graph.now.plots + 2 ^ 32 }
+    requires seen { length seen.old ≡ length prices.old }
+    requires count { length mates.old ≡ length prices.old }
+    requires alone { (v : ℕ) → v < length prices.old → get_or mates.old v 0 ≡ v }
+    requires out { (v : ℕ) → v < graph.now.plots → get_or prices.old v 0 ≡ 0 }
+    requires pay { (v : ℕ) → graph.now.plots ≤ v → v < length prices.old → get_or prices.old v 0 ≡ MISS }
+    requires gone { length gone.old ≡ length prices.old }
+    requires here { (v : ℕ) → get_or gone.old v false ≡ false }
+    ensures { IfOk result (λ s. (p : Problem) → IsProblem p → graph.now.plots ≡ p.plots → length prices.old ≡ p.plots + p.tracks
+        → ShowsRest graph.now (length prices.old) p.tracks gone.old 0 (rows_of p) → IsSolvedBy p s.pairing s.u s.v s.cost) }
+{
+    settle_all(graph, prices, mates, seen, tree)?;
+    let u = plot_prices(alloc, &prices[..graph.plots])?;
+    let v = track_prices(alloc, &prices[graph.plots..])?;
+    let cost = proven_cost(prices, prices.len() - graph.plots);
+    let pairing = first_pairing(alloc, graph, prices, mates, seen, tree, gone)?;
+    Ok(Solved {
+        pairing: Sequence::of(pairing),
+        u: Sequence::of(u),
+        v: Sequence::of(v),
+        cost,
+    })
+}
 
 /// The least pairing: of all pairings the one that comes first by its cost, then by its list,
 /// entry by entry, a lower place before a higher one and every place before none. Its prices
@@ -22,33 +124,18 @@ pub fn solve(alloc: Global, costs: &Costs) -> Result<Solved, NoMemory>
     let plots = costs.plots as usize;
     let tracks = costs.tracks as usize;
     let graph = graph_of(alloc, costs)?;
-    let mut vertices = settled(alloc, &graph, plots + tracks)?;
-    let u = plot_prices(alloc, &vertices.prices[..plots])?;
-    let v = track_prices(alloc, &vertices.prices[plots..])?;
-    let cost = sum_of(&vertices.prices) as i64 - i64::from(ALONE) * tracks as i64;
-    let pairing = first_pairing(alloc, &graph, &mut vertices)?;
-    Ok(Solved {
-        pairing: Sequence::of(pairing),
-        u: Sequence::of(u),
-        v: Sequence::of(v),
-        cost,
-    })
-}
-
-/// The prices u of the plots.
-fn plot_prices(alloc: Global, prices: &[u32]) -> Result<Vec<i64>, NoMemory> {
-    let mut us = Vec::new(alloc);
-    for price in prices {
-        us.push(i64::from(*price))?;
-    }
-    Ok(us)
-}
-
-/// The prices v of the tracks.
-fn track_prices(alloc: Global, prices: &[u32]) -> Result<Vec<i64>, NoMemory> {
-    let mut vs = Vec::new(alloc);
-    for price in prices {
-        vs.push(i64::from(*price) - i64::from(ALONE))?;
-    }
-    Ok(vs)
+    let mut prices = first_prices(alloc, plots, plots + tracks)?;
+    let mut mates = first_mates(alloc, plots + tracks)?;
+    let mut seen = vec![in alloc; false; plots + tracks]?;
+    let mut gone = vec![in alloc; false; plots + tracks]?;
+    let mut tree = Vec::new(alloc);
+    answer(
+        alloc,
+        &graph,
+        &mut prices,
+        &mut mates,
+        &mut seen,
+        &mut tree,
+        &mut gone,
+    )
 }

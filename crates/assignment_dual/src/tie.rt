@@ -1,50 +1,23 @@
 //! Of all pairings of least cost the first one, plot by plot.
 
+ghost use Rattle.std.specs.Prelude.{◌≡◌, ◌≢◌, ◌≤◌, ◌<◌, ℕ, ◌+◌, ◌^◌, ◌∷◌, [], length, get_or, true, false, Bool, List, MatchBool, OnOk, IfOk, sum};
+ghost use Rattle.assignment_dual.specs.Pairings.{Row, MISS, IsLeast};
+ghost use Rattle.assignment_dual.specs.Vertices.{HasArc, IsGraph, IsPriced, AreResting};
+ghost use Rattle.assignment_dual.specs.Rests.{ShowsRest};
+ghost use Rattle.assignment_dual.specs.Choices.{IsCandidate, AreCandidates, IsFixedBy};
+
 use crate::fix::{put_back, take_out};
 use crate::graph::Graph;
-use crate::place::settle_all;
 use crate::search::{ALONE, Node, slack};
 use std::alloc::Global;
 use trk_base::NoMemory;
 
-/// The state of all vertices.
-#[derive(Drop)]
-pub struct Vertices {
-    /// The price of each, 0 where it stands out.
-    pub prices: Vec<u32>,
-    /// The mate of each, itself where it is alone.
-    pub mates: Vec<usize>,
-    /// Whether it is out of the batch.
-    pub gone: Vec<bool>,
-    /// Whether the search has seen it.
-    pub seen: Vec<bool>,
-    /// The tree of the search.
-    pub tree: Vec<Node>,
-}
-
-/// All vertices with their places: none costs less.
-pub fn settled(alloc: Global, graph: &Graph, count: usize) -> Result<Vertices, NoMemory> {
-    let mut prices = Vec::new(alloc);
-    let mut mates = Vec::new(alloc);
-    for v in 0..count {
-        prices.push(if v < graph.plots { 0 } else { ALONE })?;
-        mates.push(v)?;
-    }
-    let gone = vec![in alloc; false; count]?;
-    let mut seen = vec![in alloc; false; count]?;
-    let mut tree = Vec::new(alloc);
-    settle_all(graph, &mut prices, &mut mates, &mut seen, &mut tree)?;
-    Ok(Vertices {
-        prices,
-        mates,
-        gone,
-        seen,
-        tree,
-    })
-}
-
 /// The sum of all prices.
-pub fn sum_of(prices: &[u32]) -> u64 {
+pub fn sum_of(prices: &[u32]) -> u64
+    requires count { length prices.now < 2 ^ 40 }
+    requires small { (v : ℕ) → get_or prices.now v 0 ≤ MISS }
+    ensures { result ≡ sum prices.now }
+{
     let mut sum = 0;
     for price in prices {
         sum += u64::from(*price);
@@ -52,79 +25,108 @@ pub fn sum_of(prices: &[u32]) -> u64 {
     sum
 }
 
-/// The arcs of the plot p that are tight, to tracks that aren't gone.
-fn tight_arcs(
+/// Whether the arc k of p is tight, and its track isn't gone.
+fn is_candidate(graph: &Graph, prices: &[u32], gone: &[bool], p: usize, k: usize) -> bool
+    requires graph { IsGraph graph.now (length prices.now) }
+    requires priced { IsPriced graph.now (length prices.now) prices.now }
+    requires count { length gone.now ≡ length prices.now }
+    requires p { p < length prices.now }
+    requires arc { HasArc graph.now p k }
+    ensures { MatchBool result (IsCandidate graph.now prices.now gone.now p k) (IsCandidate graph.now prices.now gone.now p k → ⊥) }
+{
+    let (t, slack) = slack(graph, prices, p, k);
+    slack == 0 && !gone[t]
+}
+
+/// The arcs of the plot p that are tight, to tracks that aren't gone, in their order.
+fn candidates(
     graph: &Graph,
     prices: &[u32],
     gone: &[bool],
     p: usize,
     tight: &mut Vec<usize>,
-) -> Result<(), NoMemory> {
+) -> Result<(), NoMemory>
+    requires graph { IsGraph graph.now (length prices.now) }
+    requires priced { IsPriced graph.now (length prices.now) prices.now }
+    requires count { length gone.now ≡ length prices.now }
+    requires p { p < length prices.now }
+    requires empty { tight.old.items ≡ [] }
+    ensures { OnOk result (AreCandidates graph.now prices.now gone.now p tight.new.items) }
+{
     for k in graph.first[p]..graph.first[p + 1] {
-        let (t, slack) = slack(graph, prices, p, k);
-        if slack == 0 && !gone[t] {
+        if is_candidate(graph, prices, gone, p, k) {
             tight.push(k)?;
         }
     }
     Ok(())
 }
 
-/// The track of the first of these arcs with which the least cost stays what it was.
-fn first_track(
+/// Fixes the plot p by its entry in the first of the pairings that cost least: the track of the
+/// first candidate with which the least cost stays what it was, or none.
+fn fix_plot(
     graph: &Graph,
-    vertices: &mut Vertices,
+    prices: &mut [u32],
+    mates: &mut [usize],
+    seen: &mut [bool],
+    tree: &mut Vec<Node>,
+    gone: &mut [bool],
     tight: &[usize],
-    whole: u64,
-) -> Result<Option<u32>, NoMemory> {
+    p: usize,
+) -> Result<Option<u32>, NoMemory>
+    requires graph { IsGraph graph.now (length prices.old) }
+    requires resting { AreResting graph.now (length prices.old) prices.old mates.old gone.old }
+    requires seen { length seen.old ≡ length prices.old }
+    requires count { length gone.old ≡ length prices.old }
+    requires few { length prices.old < 2 ^ 40 }
+    requires tracks { length prices.old < graph.now.plots + 2 ^ 32 }
+    requires plots { graph.now.plots ≤ length prices.old }
+    requires p { p < graph.now.plots }
+    requires here { get_or gone.old p false ≡ false }
+    requires tight { AreCandidates graph.now prices.old gone.old p tight.now }
+    ensures resting { OnOk result (AreResting graph.now (length prices.old) prices.new mates.new gone.new) }
+    ensures others { OnOk result ((v : ℕ) → v < graph.now.plots → v ≢ p → get_or gone.new v false ≡ get_or gone.old v false) }
+    ensures fixed { IfOk result (λ x. (tracks : ℕ) (row : Row) (rows : List Row) → ShowsRest graph.now (length prices.old) tracks gone.old p (row ∷ rows)
+        → IsFixedBy graph.now (length prices.old) gone.old gone.new p x tracks row rows) }
+{
+    let whole = sum_of(prices);
+    take_out(graph, prices, mates, seen, tree, gone, p)?;
     for k in tight {
-        let t = graph.arcs[*k].to;
-        take_out(
-            graph,
-            &mut vertices.prices,
-            &mut vertices.mates,
-            &mut vertices.seen,
-            &mut vertices.tree,
-            &mut vertices.gone,
-            t,
-        )?;
-        if u64::from(graph.arcs[*k].cost + ALONE) + sum_of(&vertices.prices) == whole {
-            return Ok(Some((t - graph.plots) as u32));
+        let arc = graph.arcs[*k];
+        take_out(graph, prices, mates, seen, tree, gone, arc.to)?;
+        if u64::from(arc.cost + ALONE) + sum_of(prices) == whole {
+            return Ok(Some((arc.to - graph.plots) as u32));
         }
-        put_back(
-            graph,
-            &mut vertices.prices,
-            &mut vertices.mates,
-            &mut vertices.seen,
-            &mut vertices.tree,
-            &mut vertices.gone,
-            t,
-        )?;
+        put_back(graph, prices, mates, seen, tree, gone, arc.to)?;
     }
     Ok(None)
 }
 
-/// The first of all pairings that cost least.
+/// The first of the pairings that cost least.
 pub fn first_pairing(
     alloc: Global,
     graph: &Graph,
-    vertices: &mut Vertices,
-) -> Result<Vec<Option<u32>>, NoMemory> {
+    prices: &mut [u32],
+    mates: &mut [usize],
+    seen: &mut [bool],
+    tree: &mut Vec<Node>,
+    gone: &mut [bool],
+) -> Result<Vec<Option<u32>>, NoMemory>
+    requires graph { IsGraph graph.now (length prices.old) }
+    requires resting { AreResting graph.now (length prices.old) prices.old mates.old gone.old }
+    requires seen { length seen.old ≡ length prices.old }
+    requires count { length gone.old ≡ length prices.old }
+    requires few { length prices.old < 2 ^ 40 }
+    requires tracks { length prices.old < graph.now.plots + 2 ^ 32 }
+    requires plots { graph.now.plots ≤ length prices.old }
+    requires here { (v : ℕ) → v < graph.now.plots → get_or gone.old v false ≡ false }
+    ensures { IfOk result (λ pairing. (tracks : ℕ) (rows : List Row) → ShowsRest graph.now (length prices.old) tracks gone.old 0 rows → IsLeast rows pairing.items) }
+{
     let mut pairing = Vec::new(alloc);
     let mut tight = Vec::new(alloc);
     for p in 0..graph.plots {
         tight.clear();
-        tight_arcs(graph, &vertices.prices, &vertices.gone, p, &mut tight)?;
-        let whole = sum_of(&vertices.prices);
-        take_out(
-            graph,
-            &mut vertices.prices,
-            &mut vertices.mates,
-            &mut vertices.seen,
-            &mut vertices.tree,
-            &mut vertices.gone,
-            p,
-        )?;
-        pairing.push(first_track(graph, vertices, &tight, whole)?)?;
+        candidates(graph, prices, gone, p, &mut tight)?;
+        pairing.push(fix_plot(graph, prices, mates, seen, tree, gone, &tight, p)?)?;
     }
     Ok(pairing)
 }

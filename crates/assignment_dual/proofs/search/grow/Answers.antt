@@ -5,4 +5,4 @@ use Rattle.assignment_dual.proofs.search.grow.Goals as goal
 pub nodes-preserved : goal.nodes-preserved
 nodes-preserved c =
     growing_next c.nodes.invariant (omega (arith, c.nodes-test.true, c.len.ensures, c.nodes.tree.ok.0)) c.in_ok-end.ensures.tree c.sweep.auto.seen c.in_ok-end.ensures.kept c.in_ok-end.ensures.front
-      (rw c.in_default.is at c.in_ok-end.ensures.answer)
+    (rw c.in_default.is at c.in_ok-end.ensures.answer)

@@ -13,7 +13,7 @@ returns-then-mates-y-clause-tree c =
     let xe : c.mate_of-x.result ≡ mate_at c.args.mates.now c.args.tree.now.items c.args.at = c.mate_of-x.ensures ∙ ap (λ (t : List Node). mate_at c.args.mates.now t c.args.at) c.deref.ensures.value in
     let xl : c.mate_of-x.result < length c.args.prices.now = subst (λ (v : ℕ). v < length c.args.prices.now) (sym xe) (c.requires.mates.within _ (c.requires.tree.within c.args.at c.requires.at)) in
     let o : Opened c.args.graph.now c.args.prices.now c.args.mates.now c.args.seen.now c.loop-k.seen c.args.tree.now.items c.loop-k.tree.items c.in-Some.y c.args.at =
-      opened c.requires.graph c.requires.mates c.requires.alone c.loop-k.invariant c.requires.at xe xl c.in-Some.ensures.answer.0 c.in-Some.ensures.answer.1 c.in-Some.ensures.answer.2 in
+    opened c.requires.graph c.requires.mates c.requires.alone c.loop-k.invariant c.requires.at xe xl c.in-Some.ensures.answer.0 c.in-Some.ensures.answer.1 c.in-Some.ensures.answer.2 in
     rw c.in_ok-push.ensures.items o.search
 
 pub returns-then-mates-y-clause-answer : goal.returns-then-mates-y-clause-answer
@@ -21,7 +21,7 @@ returns-then-mates-y-clause-answer c =
     let xe : c.mate_of-x.result ≡ mate_at c.args.mates.now c.args.tree.now.items c.args.at = c.mate_of-x.ensures ∙ ap (λ (t : List Node). mate_at c.args.mates.now t c.args.at) c.deref.ensures.value in
     let xl : c.mate_of-x.result < length c.args.prices.now = subst (λ (v : ℕ). v < length c.args.prices.now) (sym xe) (c.requires.mates.within _ (c.requires.tree.within c.args.at c.requires.at)) in
     let o : Opened c.args.graph.now c.args.prices.now c.args.mates.now c.args.seen.now c.loop-k.seen c.args.tree.now.items c.loop-k.tree.items c.in-Some.y c.args.at =
-      opened c.requires.graph c.requires.mates c.requires.alone c.loop-k.invariant c.requires.at xe xl c.in-Some.ensures.answer.0 c.in-Some.ensures.answer.1 c.in-Some.ensures.answer.2 in
+    opened c.requires.graph c.requires.mates c.requires.alone c.loop-k.invariant c.requires.at xe xl c.in-Some.ensures.answer.0 c.in-Some.ensures.answer.1 c.in-Some.ensures.answer.2 in
     let b : get_or c.args.prices.now c.mate_of-x.result 0 ≢ MISS = subst (λ (v : ℕ). get_or c.args.prices.now v 0 ≢ MISS) (sym xe) c.requires.below in
     let f : get_or c.args.prices.now c.in-Some.y 0 ≡ MISS = open_pays c.requires.priced c.requires.pay (across_differ o.side) c.in-Some.ensures.answer.1 c.if-mates-y.true b c.in-Some.ensures.answer.0 in
     let n : length c.loop-k.tree.items ≡ c.len.result - 1 = omega (arith, c.len.ensures, c.in_ok-push.ensures.len, c.loop-k.tree.ok.0) in
@@ -31,10 +31,10 @@ pub loop-k-preserved : goal.loop-k-preserved
 loop-k-preserved c = elim c.match-opens.branch [
   | in-Some+in_ok-push+else-mates-y w ↦
       let xe : c.mate_of-x.result ≡ mate_at c.args.mates.now c.args.tree.now.items c.args.at = c.mate_of-x.ensures ∙ ap (λ (t : List Node). mate_at c.args.mates.now t c.args.at) c.deref.ensures.value in
-    let xl : c.mate_of-x.result < length c.args.prices.now = subst (λ (v : ℕ). v < length c.args.prices.now) (sym xe) (c.requires.mates.within _ (c.requires.tree.within c.args.at c.requires.at)) in
+      let xl : c.mate_of-x.result < length c.args.prices.now = subst (λ (v : ℕ). v < length c.args.prices.now) (sym xe) (c.requires.mates.within _ (c.requires.tree.within c.args.at c.requires.at)) in
       let o : Opened c.args.graph.now c.args.prices.now c.args.mates.now c.args.seen.now c.loop-k.seen c.args.tree.now.items c.loop-k.tree.items w.in-Some.y c.args.at =
-        opened c.requires.graph c.requires.mates c.requires.alone c.loop-k.invariant c.requires.at xe xl w.in-Some.ensures.answer.0 w.in-Some.ensures.answer.1 w.in-Some.ensures.answer.2 in
+      opened c.requires.graph c.requires.mates c.requires.alone c.loop-k.invariant c.requires.at xe xl w.in-Some.ensures.answer.0 w.in-Some.ensures.answer.1 w.in-Some.ensures.answer.2 in
       rw (w.tree-is, w.seen-is, w.in_ok-push.ensures.items)
-        (sweeping_opened c.loop-k.invariant o w.in-Some.ensures.answer.1 w.in-Some.ensures.answer.0 w.if-mates-y.false (length-set c.loop-k.seen w.in-Some.y true))
+      (sweeping_opened c.loop-k.invariant o w.in-Some.ensures.answer.1 w.in-Some.ensures.answer.0 w.if-mates-y.false (length-set c.loop-k.seen w.in-Some.y true))
   | in_default w ↦ rw (w.tree-is, w.seen-is) (sweeping_closed c.loop-k.invariant w.in_default.ensures.answer)
-  ]
+]
