@@ -170,7 +170,7 @@ answered {g} {n} {qs} {ms} {gone} {xs} {us} {vs} {c} gr r l z le ue ve ce p h q 
       least = least;
       worth = omega (arith, ints, ce, ap (λ (o : ℕ). MISS * o) t, v.2, least_value v.1 least);
       proves = subst (λ (o : List ℤ). Proves p xs o vs) (sym us') (subst (λ (o : List ℤ). Proves p xs (map pos (take p.plots qs)) o) (sym vs') (answer_proves s least));
-      tracks = tracks_named h least.pairing
+      tracks = tracks_named h least.pairing;
     }
 
 pub ok_then : {A E : Type 0} {P Q : A → Type 0} (r : Result A E) → ((a : A) → P a → Q a) → IfOk r P → IfOk r Q

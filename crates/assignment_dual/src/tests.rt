@@ -1,124 +1,148 @@
+ghost use Rattle.std.specs.Prelude.{◌≡◌, ◌+◌, ℕ, length, [], IsTrue};
+ghost use Rattle.assignment_dual.specs.Problems.{EdgeBefore, edge_at};
+
 use crate::*;
 use rand_core::utils::NextWord;
 use rand_pcg::Pcg32;
 use std::alloc::Global;
 use std::test::Fail;
-use trk_base::Sequence;
+use trk_base::{NoMemory, Sequence};
 
-/// The assignment problem of these edges, if they are in order and in range.
-fn problem(
-    alloc: Global,
-    plots: u32,
-    tracks: u32,
-    edges: &[(u32, u32, u16)],
-) -> Result<Costs, Fail> {
-    Ok(Costs {
+/// A problem without edges.
+fn bare(alloc: Global, plots: u32, tracks: u32) -> Costs
+    ensures plots { result.plots ≡ plots }
+    ensures tracks { result.tracks ≡ tracks }
+    ensures edges { result.edges ≡ [] }
+{
+    Costs {
         plots,
         tracks,
-        edges: Sequence::of(edges.to_vec(alloc)?),
-    })
-}
-
-/// All pairings are tried, in their order; the first of the cheapest is kept.
-#[derive(Drop)]
-struct Trial<'a> {
-    plots: usize,
-    costs: &'a [Option<u16>],
-    tracks: usize,
-    entries: Vec<Option<u32>>,
-    best: Vec<Option<u32>>,
-    least: Option<u32>,
-}
-
-fn attempt(alloc: Global, trial: &mut Trial, cost: u32) -> Result<(), Fail> {
-    let p = trial.entries.len();
-    if p == trial.plots {
-        if trial.least.is_none() || Some(cost) < trial.least {
-            trial.least = Some(cost);
-            trial.best = trial.entries.to_vec(alloc)?;
-        }
-        return Ok(());
+        edges: Sequence::new(alloc),
     }
-    for t in 0..trial.tracks {
-        if let Some(gate) = trial.costs[p * trial.tracks + t] {
-            if !trial.entries.contains(&Some(t as u32)) {
-                trial.entries.push(Some(t as u32))?;
-                attempt(alloc, trial, cost + u32::from(gate))?;
-                let _ = trial.entries.pop();
+}
+
+/// Whether an edge comes behind all others.
+fn is_behind(edges: &[(u32, u32, u16)], edge: (u32, u32, u16)) -> bool
+    ensures { IsTrue result → (i : ℕ) → i + 1 ≡ length edges.now → EdgeBefore (edge_at edges.now i) edge }
+{
+    if edges.is_empty() {
+        return true;
+    }
+    let (plot, track, _) = edges[edges.len() - 1];
+    plot < edge.0 || plot == edge.0 && track < edge.1
+}
+
+/// The problem with one more edge behind the others, if that is its place.
+fn with_edge(mut costs: Costs, edge: (u32, u32, u16)) -> Result<Costs, NoMemory> {
+    if edge.0 >= costs.plots || edge.1 >= costs.tracks || edge.2 > 4096 {
+        return Ok(costs);
+    }
+    if is_behind(costs.edges.as_slice(), edge) {
+        costs.edges.push(edge)?;
+    }
+    Ok(costs)
+}
+
+/// The answer, where there is memory.
+fn solved(alloc: Global, costs: &Costs) -> Result<Solved, Fail> {
+    Ok(solve(alloc, costs).map_err(|_| "no memory")?)
+}
+
+#[test]
+fn takes_the_first_of_equal_pairings(rt: HostRuntime) -> Result<(), Fail> {
+    let mut costs = bare(rt.alloc(), 2, 2);
+    for edge in [(0, 0, 1), (0, 1, 2), (1, 0, 1), (1, 1, 2)] {
+        costs = with_edge(costs, edge).map_err(|_| "no memory")?;
+    }
+    let answer = solved(rt.alloc(), &costs)?;
+    assert_eq!(rt; answer.pairing.as_slice(), [Some(0), Some(1)].as_slice());
+    assert_eq!(rt; answer.cost, 3);
+    Ok(())
+}
+
+#[test]
+fn needs_no_plots_and_no_edges(rt: HostRuntime) -> Result<(), Fail> {
+    let nothing = solved(rt.alloc(), &bare(rt.alloc(), 0, 0))?;
+    assert_eq!(rt; nothing.pairing.len(), 0);
+    assert_eq!(rt; nothing.cost, 0);
+    let alone = solved(rt.alloc(), &bare(rt.alloc(), 2, 1))?;
+    assert_eq!(rt; alone.pairing.as_slice(), [None, None].as_slice());
+    assert_eq!(rt; alone.cost, 2 * 4097);
+    Ok(())
+}
+
+/// A small problem: what each of four tracks costs at each of five plots, if it gates it.
+fn small(alloc: Global, draw: &mut Pcg32, round: u32) -> Result<(Costs, Vec<Option<u16>>), Fail> {
+    let mut costs = bare(alloc, 5, 4);
+    let mut gates = Vec::new(alloc);
+    for plot in 0..5 {
+        for track in 0..4 {
+            let word = draw.next_word();
+            let cost = match round % 3 {
+                0 => word / 4 % 3,
+                1 => word / 4 % 2 * 4096,
+                _ => word / 4 % 4097,
+            };
+            if word % 4 == 0 {
+                gates.push(None)?;
+            } else {
+                costs = with_edge(costs, (plot, track, cost as u16)).map_err(|_| "no memory")?;
+                gates.push(Some(cost as u16))?;
             }
         }
     }
-    trial.entries.push(None)?;
-    attempt(alloc, trial, cost + 4097)?;
-    let _ = trial.entries.pop();
-    Ok(())
+    Ok((costs, gates))
+}
+
+/// The entries that a number spells, the first one by its highest digit: 4 is none.
+fn entries(alloc: Global, code: u32) -> Result<Vec<Option<u32>>, Fail> {
+    let mut entries = Vec::new(alloc);
+    for unit in [625, 125, 25, 5, 1] {
+        let digit = code / unit % 5;
+        entries.push((digit < 4).then_some(digit))?;
+    }
+    Ok(entries)
+}
+
+/// What these entries cost, if they are a pairing.
+fn cost_of(gates: &[Option<u16>], entries: &[Option<u32>]) -> Option<u32> {
+    let mut cost: u32 = 0;
+    for (plot, entry) in entries.iter().enumerate() {
+        let part = match entry {
+            None => 4097,
+            Some(track) => {
+                if entries[..plot].contains(entry) {
+                    return None;
+                }
+                let at = plot.checked_mul(4)?.checked_add(*track as usize)?;
+                u32::from((*gates.get(at)?)?)
+            }
+        };
+        cost = cost.checked_add(part)?;
+    }
+    Some(cost)
 }
 
 #[test]
 fn equals_the_first_of_all_pairings(rt: HostRuntime) -> Result<(), Fail> {
     let mut draw = Pcg32::new(42, 54);
-    for round in 0..20 {
-        let plots = draw.next_word() % 5 + 1;
-        let tracks = draw.next_word() % 5;
-        let mut edges = Vec::new(rt.alloc());
-        let mut costs = Vec::new(rt.alloc());
-        let kind = round % 3;
-        for p in 0..plots {
-            for t in 0..tracks {
-                let w = draw.next_word();
-                if w % 4 != 0 {
-                    let c = if kind == 0 {
-                        (w / 4 % 3) as u16
-                    } else if kind == 1 {
-                        (w / 4 % 2 * 4096) as u16
-                    } else {
-                        (w / 4 % 4097) as u16
-                    };
-                    edges.push((p, t, c))?;
-                    costs.push(Some(c))?;
-                } else {
-                    costs.push(None)?;
-                }
+    for round in 0..300 {
+        let (costs, gates) = small(rt.alloc(), &mut draw, round)?;
+        let mut best = None;
+        let mut first = 0;
+        for code in 0..3125 {
+            let found = cost_of(&gates, &entries(rt.alloc(), code)?);
+            if found.is_some() && (best.is_none() || found < best) {
+                best = found;
+                first = code;
             }
         }
-        let mut trial = Trial {
-            plots: plots as usize,
-            costs: &costs,
-            tracks: tracks as usize,
-            entries: Vec::new(rt.alloc()),
-            best: Vec::new(rt.alloc()),
-            least: None,
-        };
-        attempt(rt.alloc(), &mut trial, 0)?;
-        let p = problem(rt.alloc(), plots, tracks, &edges)?;
-        let solved = solve(rt.alloc(), &p).map_err(|_| "no memory")?;
-        assert_eq!(rt; solved.pairing.as_slice(), trial.best.as_slice());
-        assert_eq!(rt; Some(solved.cost as u32), trial.least);
-    }
-    Ok(())
-}
-
-#[test]
-fn dense(rt: HostRuntime) -> Result<(), Fail> {
-    let mut draw = Pcg32::new(42, 54);
-    for round in 0..10 {
-        let mut edges = Vec::new(rt.alloc());
-        for p in 0..60 {
-            for t in 0..60 {
-                edges.push((
-                    p,
-                    t,
-                    if round > 20 {
-                        7
-                    } else {
-                        (draw.next_word() % 4097) as u16
-                    },
-                ))?;
-            }
-        }
-        let p = problem(rt.alloc(), 60, 60, &edges)?;
-        let solved = solve(rt.alloc(), &p).map_err(|_| "no memory")?;
-        assert_eq!(rt; solved.pairing.len(), 60);
+        let answer = solved(rt.alloc(), &costs)?;
+        assert_eq!(rt;
+            answer.pairing.as_slice(),
+            entries(rt.alloc(), first)?.as_slice()
+        );
+        assert_eq!(rt; Some(answer.cost), best.map(i64::from));
     }
     Ok(())
 }
