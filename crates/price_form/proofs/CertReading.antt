@@ -1,14 +1,12 @@
 -- The certificate that is put together of what was read, and those that are refused.
-use Rattle.std.proofs.Common.{◌≡◌, ℕ, ℤ, ◌+◌, ◌*◌, ◌<◌, ◌≤◌, ◌^◌, Bool, true, false, List, Option, length, arith, sym, ◌∙◌, ap, subst, get_or, ◌↔◌}
+use Rattle.std.proofs.Common.{◌≡◌, ℕ, ℤ, ◌+◌, ◌*◌, ◌<◌, Bool, true, false, List, Option, length, arith, sym, ◌∙◌, ap, subst, get_or, ◌↔◌}
 use Rattle.std.specs.List.{All}
 use Rattle.std.specs.Option.{IfSome}
 use Rattle.std.proofs.lemmas.Bool.{both_ways}
 use Rattle.assignment_dual.specs.Problems.{Edge, IsProblem, Problem}
-use Rattle.price_form.specs.declared.certs.Cert.{Cert}
 use Rattle.price_form.specs.declared.reading.Counts.{Counts}
-use Rattle.price_form.specs.Certificates.{IsCert}
-use Rattle.price_form.specs.Octets.{half_at, many_at, word_at, price_number_at, edge_numbers_at, entry_number_at}
-use Rattle.price_form.specs.Reading.{plots_at, tracks_at, edges_at, end_of, cert_end, cert_of, cert_read, HasCounts, ReadsCert, ReadsNone}
+use Rattle.price_form.specs.Octets.{many_at, word_at, price_number_at, edge_numbers_at, entry_number_at}
+use Rattle.price_form.specs.Reading.{plots_at, tracks_at, end_of, cert_of, cert_read, HasCounts, ReadsCert, ReadsNone}
 use Rattle.price_form.proofs.Standing.{AreOctets, length-many}
 use Rattle.price_form.proofs.Filed.{small_half}
 use Rattle.price_form.proofs.ReadSteps.{bad_edges, bad_names, read_edges, read_entries}

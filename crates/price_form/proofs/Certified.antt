@@ -1,13 +1,13 @@
 -- A certificate that is written is read, and one that is read stands there.
-use Rattle.std.proofs.Common.{◌≡◌, ℕ, ℤ, suc, zero, pos, ◌+◌, ◌-◌, ◌*◌, ◌<◌, ◌≤◌, ◌^◌, List, [], ◌∷◌, ◌++◌, Option, Some, None, length, get_or, arith, refl, sym, ◌∙◌, ap, subst, length-append}
-use Rattle.std.specs.Int.{w16, w32, w64, to_be_bytes}
+use Rattle.std.proofs.Common.{◌≡◌, ℕ, ℤ, ◌+◌, ◌*◌, ◌<◌, ◌≤◌, ◌^◌, List, ◌∷◌, ◌++◌, Option, Some, length, get_or, arith, refl, sym, ◌∙◌, subst, length-append}
+use Rattle.std.specs.Int.{w32, w64, to_be_bytes}
 use Rattle.std.specs.Prelude.{FitsSigned}
 use Rattle.std.specs.List.{flat_map, All}
 use Rattle.std.specs.Option.{IfSome}
 use Rattle.assignment_dual.specs.Problems.{Edge, IsProblem}
 use Rattle.price_form.specs.declared.certs.Cert.{Cert}
 use Rattle.price_form.specs.Certificates.{IsCert}
-use Rattle.price_form.specs.Octets.{word_octets, price_octets, edge_octets, entry_octets, half_at, word_at, price_number_at, edge_numbers_at, entry_number_at, many_at}
+use Rattle.price_form.specs.Octets.{word_octets, price_octets, edge_octets, entry_octets, half_at, word_at, price_number_at, edge_numbers_at, entry_number_at}
 use Rattle.price_form.specs.Spelling.{head_octets, gate_octets, proof_octets, cert_octets}
 use Rattle.price_form.specs.Files.{IsInRange}
 use Rattle.price_form.specs.Reading.{Stands, plots_at, tracks_at, edges_at, end_of, cert_end, cert_of, cert_read}

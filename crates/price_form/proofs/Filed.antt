@@ -1,12 +1,12 @@
 -- Records, one behind the other.
-use Rattle.std.proofs.Common.{◌≡◌, ℕ, ℤ, suc, zero, pos, negsuc, ◌+◌, ◌-◌, ◌*◌, ◌<◌, ◌≤◌, ◌^◌, List, [], ◌∷◌, ◌++◌, length, get_or, take, drop, arith, refl, sym, ◌∙◌, ap, subst, inl, inr, length-append, append_assoc, append-nil}
+use Rattle.std.proofs.Common.{◌≡◌, ℕ, ◌+◌, ◌-◌, ◌*◌, ◌<◌, ◌≤◌, ◌^◌, List, [], ◌∷◌, ◌++◌, length, get_or, take, drop, arith, refl, sym, ◌∙◌, ap, subst, inl, inr, length-append, append_assoc, append-nil}
 use Rattle.std.specs.Int.{w64, cast_signed}
 use Rattle.std.specs.Prelude.{FitsSigned}
 use Rattle.std.specs.List.{flat_map, All, range_with_len}
 use Rattle.std.proofs.Math.Facts.{sfits_to_z}
-use Rattle.std.proofs.lemmas.Bool.{cases_eq, cases_lt}
+use Rattle.std.proofs.lemmas.Bool.{cases_lt}
 use Rattle.std.proofs.lemmas.Grind.{same_number_lists, flat_map-append}
-use Rattle.std.proofs.lemmas.List.{get_or_append_left, get_or-append-add, get_or-drop, get_or-take, length-drop, length-take-le, take-append-drop, take_all, get_or_default}
+use Rattle.std.proofs.lemmas.List.{get_or_append_left, get_or-append-add, get_or-drop, get_or-take, length-drop, length-take-le, take-append-drop, take_all}
 use Rattle.std.proofs.lemmas.List.Elements.{All-push, All-map}
 use Rattle.assignment_dual.specs.Problems.{IsProblem}
 use Rattle.price_form.specs.declared.certs.Cert.{Cert}
@@ -15,9 +15,9 @@ use Rattle.price_form.specs.declared.certs.PriceRecord.TheVariants.{Edition, Cer
 use Rattle.price_form.specs.Certificates.{IsCert}
 use Rattle.price_form.specs.Octets.{word_octets, word_at, half_at, price_number_at, many_at}
 use Rattle.price_form.specs.Spelling.{record_octets, cert_octets}
-use Rattle.price_form.specs.Files.{IsInRange, IsRecord, StandsAt, StandFrom, ArePrices, BeginNone, StopsAt, magic}
-use Rattle.price_form.specs.Reading.{Stands, NoRecord, ReadsRecord, ReadsNone, cert_read, cert_end, plots_at, tracks_at, edges_at}
-use Rattle.price_form.proofs.Standing.{AreOctets, stands_head, stands_both, stands_cons, word_stands, stands_first, stands_second, stands_tail}
+use Rattle.price_form.specs.Files.{IsInRange, IsRecord, StandsAt, StandFrom, ArePrices, StopsAt, magic}
+use Rattle.price_form.specs.Reading.{Stands, NoRecord, ReadsRecord, ReadsNone, cert_read, cert_end}
+use Rattle.price_form.proofs.Standing.{AreOctets, stands_head, stands_both, stands_cons, word_stands}
 use Rattle.price_form.proofs.Certified.{cert_is, cert_stands, small_word}
 
 pub stands_from_drop : (bytes : List ℕ) (at : ℕ) (piece rest : List ℕ) → at ≤ length bytes → drop at bytes ≡ piece ++ rest → Stands bytes at piece

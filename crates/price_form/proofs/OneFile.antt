@@ -1,14 +1,13 @@
 -- Octets are a price file in one way, or have one fault.
-use Rattle.std.proofs.Common.{◌≡◌, ◌⊎◌, ℕ, suc, zero, ◌+◌, ◌<◌, ◌≤◌, List, [], ◌∷◌, ◌++◌, length, get_or, arith, refl, sym, ◌∙◌, ap, subst, inl, inr, length-append, append_assoc, append-nil}
+use Rattle.std.proofs.Common.{◌≡◌, ◌⊎◌, ℕ, ◌+◌, List, [], ◌∷◌, ◌++◌, length, get_or, arith, refl, sym, ◌∙◌, ap, subst, inl, inr, length-append, append_assoc, append-nil}
 use Rattle.std.specs.List.{flat_map, All}
 use Rattle.std.proofs.lemmas.List.{append_cancel_left, get_or_append_left}
 use Rattle.std.proofs.lemmas.List.Elements.{All-head, All-tail}
-use Rattle.price_form.specs.declared.certs.Cert.{Cert}
 use Rattle.price_form.specs.declared.certs.PriceRecord.{PriceRecord}
 use Rattle.price_form.specs.declared.certs.PriceRecord.TheVariants.{Edition, Cert as Certified}
 use Rattle.price_form.specs.Octets.{word_octets}
 use Rattle.price_form.specs.Spelling.{record_octets, cert_octets}
-use Rattle.price_form.specs.Files.{IsRecord, StandsAt, StandFrom, ArePrices, BeginNone, StopsAt, IsFault, magic}
+use Rattle.price_form.specs.Files.{IsRecord, StandsAt, StandFrom, ArePrices, BeginNone, IsFault, magic}
 use Rattle.price_form.specs.Reading.{Stands}
 use Rattle.price_form.proofs.Standing.{stands_head, stands_first, stands_second, stands_tail, word_is}
 use Rattle.price_form.proofs.Certified.{cert_is}

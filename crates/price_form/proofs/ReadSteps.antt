@@ -1,15 +1,12 @@
 -- The steps of reading: numbers one by one, and what is refused.
-use Rattle.std.proofs.Common.{◌≡◌, ℕ, ℤ, pos, ◌+◌, ◌-◌, ◌*◌, ◌<◌, ◌≤◌, ◌^◌, List, [], ◌∷◌, ◌++◌, Option, Some, None, length, get_or, arith, refl, sym, ◌∙◌, ap, subst, inl, inr}
-use Rattle.std.specs.Int.{w64}
-use Rattle.std.specs.Prelude.{FitsSigned}
-use Rattle.std.specs.List.{All, range_with_len}
+use Rattle.std.proofs.Common.{◌≡◌, ℕ, ◌+◌, ◌-◌, ◌*◌, ◌<◌, ◌≤◌, List, [], ◌∷◌, ◌++◌, Option, length, arith, sym, ◌∙◌, subst, inl, inr}
+use Rattle.std.specs.List.{All}
 use Rattle.std.specs.Option.{IfSome}
 use Rattle.std.proofs.lemmas.Bool.{cases_eq}
 use Rattle.std.proofs.lemmas.List.{get_or_default}
 use Rattle.std.proofs.lemmas.List.FromFn.{map-range_with_len_more}
 use Rattle.assignment_dual.specs.Problems.{Edge, EdgeBefore, IsProblem, edge_at}
-use Rattle.price_form.specs.Certificates.{IsCert}
-use Rattle.price_form.specs.Octets.{many_at, word_at, edge_numbers_at, entry_number_at}
+use Rattle.price_form.specs.Octets.{many_at, edge_numbers_at, entry_number_at}
 use Rattle.price_form.specs.Reading.{plots_at, tracks_at, edges_at, cert_end, cert_read, ReadsNone}
 use Rattle.price_form.proofs.Rows.{before_trans}
 

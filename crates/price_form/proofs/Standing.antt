@@ -1,15 +1,15 @@
 -- Pieces that stand in octets, one behind the other; the numbers that stand there, and those that are written there.
-use Rattle.std.proofs.Common.{◌≡◌, ◌≢◌, ℕ, ℤ, suc, zero, pos, negsuc, ◌+◌, ◌-◌, ◌*◌, ◌<◌, ◌≤◌, ◌^◌, List, [], ◌∷◌, ◌++◌, Option, Some, None, length, get_or, take, drop, map, arith, refl, sym, ◌∙◌, ap, subst, inl, inr, length-append, cond, eqb, lit<}
+use Rattle.std.proofs.Common.{◌≡◌, ℕ, ℤ, suc, zero, pos, negsuc, ◌+◌, ◌-◌, ◌*◌, ◌<◌, ◌≤◌, ◌^◌, List, [], ◌∷◌, ◌++◌, Option, Some, None, length, get_or, map, arith, refl, sym, ◌∙◌, ap, subst, inl, inr, length-append, cond, lit<}
 use Rattle.std.specs.Int.{w16, w32, w64, to_be_bytes, from_be_bytes, cast_unsigned, cast_signed}
 use Rattle.std.specs.Prelude.{FitsSigned}
 use Rattle.std.specs.List.{flat_map, All, range_with_len}
 use Rattle.std.proofs.lemmas.Bool.{cases_eq, cases_lt, eq-eqb, ne_eqb}
 use Rattle.std.proofs.lemmas.Int.{to_z-of_z, of_z-to_z}
 use Rattle.std.proofs.lemmas.Nat.{from_be_bytes-to_be_bytes_2, from_be_bytes-to_be_bytes_4, from_be_bytes-to_be_bytes_8, be_bytes_2, be_bytes_4, be_bytes_8}
-use Rattle.std.proofs.lemmas.List.{get_or_append_left, get_or-append-add, same_lists, get_or_default, get_or-drop, get_or-take, length-drop}
+use Rattle.std.proofs.lemmas.List.{get_or_append_left, get_or-append-add, same_lists}
 use Rattle.std.proofs.lemmas.List.FromFn.{length-map-range_with_len, get_or-map-range_with_len}
 use Rattle.assignment_dual.specs.Problems.{Edge}
-use Rattle.price_form.specs.Octets.{word_octets, price_octets, edge_octets, entry_octets, entry_number, entry_of, none_number, short_at, half_at, word_at, price_number_at, edge_numbers_at, entry_number_at, many_at}
+use Rattle.price_form.specs.Octets.{price_octets, edge_octets, entry_octets, entry_number, entry_of, none_number, short_at, half_at, word_at, price_number_at, edge_numbers_at, entry_number_at, many_at}
 use Rattle.price_form.specs.Reading.{Stands}
 
 -- two pieces together

@@ -1,5 +1,5 @@
 -- Sums of prices.
-use Rattle.std.proofs.Common.{◌≡◌, ℕ, ◌+◌, List, [], ◌∷◌, ◌++◌, take, length, get_or, arith, refl, sym, ◌∙◌, ap, ℤ, pos, ◌+ℤ◌, ◌<◌}
+use Rattle.std.proofs.Common.{◌≡◌, ℕ, ◌+◌, List, [], ◌∷◌, take, length, ◌∙◌, ap, ℤ, pos, ◌+ℤ◌, ◌<◌}
 use Rattle.std.proofs.lemmas.Grind.{fold-append}
 use Rattle.std.proofs.lemmas.List.{take_more}
 use Rattle.assignment_dual.specs.Problems.{total, price_at}

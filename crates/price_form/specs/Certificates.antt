@@ -1,6 +1,5 @@
 -- Certificates whose lists have the lengths that their problem asks for.
-use Rattle.std.specs.Prelude.{◌≡◌, ◌<◌, ◌≤◌, ◌^◌, ◌-◌, length, All, IfSome}
-use Rattle.assignment_dual.specs.Problems.{Problem}
+use Rattle.std.specs.Prelude.{◌≡◌, ◌<◌, ◌≤◌, ◌^◌, length, All, IfSome}
 use Rattle.price_form.specs.declared.certs.Cert.{Cert}
 
 -- one entry of each list for each plot or track, and no number that stands for none

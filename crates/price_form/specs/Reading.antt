@@ -7,7 +7,7 @@ use Rattle.price_form.specs.declared.reading.Counts.{Counts}
 use Rattle.price_form.specs.Certificates.{IsCert}
 use Rattle.price_form.specs.Octets.{half_at, word_at, price_number_at, edge_numbers_at, entry_number_at, many_at}
 use Rattle.price_form.specs.Spelling.{record_octets}
-use Rattle.price_form.specs.Files.{IsInRange, IsRecord, StandsAt}
+use Rattle.price_form.specs.Files.{IsRecord, StandsAt}
 
 -- the piece stands in the octets from place p on
 pub record Stands (xs : List ℕ) (p : ℕ) (piece : List ℕ) : Type 0 where

@@ -1,5 +1,3 @@
-use Rattle.std.proofs.Common.{◌∙◌, ap}
-use Rattle.std.specs.Int.{w64, cast_signed}
 use Rattle.price_form.specs.Octets.{entry_number_at}
 use Rattle.price_form.proofs.ReadSteps.{none_yet, one_more}
 use Rattle.price_form.proofs.numbers.entries_at.Goals as goal

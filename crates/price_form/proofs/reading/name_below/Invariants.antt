@@ -1,4 +1,4 @@
-use Rattle.std.proofs.Common.{ℕ, ◌<◌}
+use Rattle.std.proofs.Common.{◌<◌}
 use Rattle.std.specs.List.{AllWithin}
 use Rattle.std.specs.Option.{IfSome}
 use Rattle.price_form.proofs.reading.name_below.Given as goal

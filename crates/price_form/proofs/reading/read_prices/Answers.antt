@@ -1,9 +1,7 @@
-use Rattle.std.proofs.Common.{◌<◌, ◌≤◌, ◌-◌, ◌∙◌, ◌++◌, ◌∷◌, [], ℕ, arith, inr, subst, sym}
+use Rattle.std.proofs.Common.{arith, inr, subst}
 use Rattle.std.specs.Option.{MatchOption}
-use Rattle.std.specs.List.{All}
-use Rattle.price_form.specs.Files.{IsRecord, StandFrom}
 use Rattle.price_form.specs.Reading.{NoRecord, ReadsRecord}
-use Rattle.price_form.proofs.Filed.{More, stops_here, one_record, more_as}
+use Rattle.price_form.proofs.Filed.{stops_here, one_record, more_as}
 use Rattle.price_form.proofs.reading.read_prices.Goals as goal
 
 pub returns-in-None : goal.returns-in-None
