@@ -1,9 +1,9 @@
 -- The plots before p have their places.
-use Rattle.std.proofs.Common.{◌≡◌, ◌≢◌, ◌≤◌, ◌<◌, ◌⊎◌, inl, inr, ℕ, ◌+◌, length, get_or, List, arith, refl, sym, ◌∙◌, ap, subst}
-use Rattle.std.proofs.lemmas.Bool.{cases_eq, cases_lt}
+use Rattle.std.proofs.Common.{◌≡◌, ◌≢◌, ◌≤◌, ◌<◌, ◌⊎◌, inl, inr, ℕ, ◌+◌, length, get_or, List, arith, sym, ◌∙◌, ap, subst}
+use Rattle.std.proofs.lemmas.Bool.{cases_lt}
 use Rattle.assignment_dual.specs.declared.graph.Graph.{Graph}
 use Rattle.assignment_dual.specs.Pairings.{MISS}
-use Rattle.assignment_dual.specs.Vertices.{Across, HasArc, to_of, cost_at, IsArc, IsGraph, IsPriced, Tight, AreMates, OthersPay, IsSettled}
+use Rattle.assignment_dual.specs.Vertices.{to_of, IsArc, IsGraph, IsPriced, AreMates, OthersPay, IsSettled}
 use Rattle.assignment_dual.proofs.Shifts.{priced_past}
 
 pub record Adding (g : Graph) (n : ℕ) (qs ms : List ℕ) (p : ℕ) : Type 0 where

@@ -1,12 +1,12 @@
 -- The candidates of a plot are collected and tried.
-use Rattle.std.proofs.Common.{◌≡◌, ◌≢◌, ◌≤◌, ◌<◌, ◌⊎◌, inl, inr, ℕ, zero, suc, ◌+◌, ◌-◌, ◌*◌, length, get_or, get_or-set_other, set, sum, Option, Some, None, List, [], ◌∷◌, ◌++◌, Bool, true, false, arith, refl, sym, ◌∙◌, ap, subst}
+use Rattle.std.proofs.Common.{◌≡◌, ◌≢◌, ◌≤◌, ◌<◌, inl, inr, ℕ, zero, suc, ◌+◌, ◌-◌, ◌*◌, length, get_or, get_or-set_other, set, sum, Some, None, List, [], ◌∷◌, ◌++◌, Bool, true, false, arith, refl, sym, ◌∙◌, ap, subst}
 use Rattle.std.proofs.lemmas.List.{get_or_append_left, length_push}
 use Rattle.std.proofs.Math.Seq.{get_or-append_seam}
-use Rattle.std.proofs.lemmas.Bool.{cases_eq, cases_lt}
+use Rattle.std.proofs.lemmas.Bool.{cases_lt}
 use Rattle.assignment_dual.specs.declared.graph.Graph.{Graph}
 use Rattle.assignment_dual.specs.declared.graph.Arc.{Arc}
 use Rattle.assignment_dual.specs.Pairings.{MISS, Row}
-use Rattle.assignment_dual.specs.Vertices.{HasArc, no_arc, to_of, cost_at, IsArc, IsGraph, AreResting}
+use Rattle.assignment_dual.specs.Vertices.{no_arc, to_of, cost_at, IsArc, IsGraph, AreResting}
 use Rattle.assignment_dual.specs.Rests.{ShowsRest}
 use Rattle.assignment_dual.specs.Choices.{IsCandidate, AreCandidates, Fails, IsFixedBy}
 use Rattle.assignment_dual.proofs.Columns.{arc_read}

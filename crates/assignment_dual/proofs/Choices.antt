@@ -1,17 +1,17 @@
 -- The first entry with which the least cost is reached.
-use Rattle.std.proofs.Common.{◌≡◌, ◌≢◌, ◌≤◌, ◌<◌, ◌⊎◌, inl, inr, ℕ, zero, suc, ◌+◌, ◌*◌, ◌-◌, length, get_or, set, slice_set, drop, sum, map, cond, List, [], ◌∷◌, Option, Some, None, IsSome, is_some, Bool, true, false, eqb, arith, refl, sym, ◌∙◌, ap, subst, get_or-set_other, length-drop}
+use Rattle.std.proofs.Common.{◌≡◌, ◌≢◌, ◌≤◌, ◌<◌, inl, inr, ℕ, ◌+◌, ◌*◌, ◌-◌, length, get_or, set, drop, sum, map, cond, List, [], ◌∷◌, Option, Some, None, IsSome, is_some, Bool, true, false, eqb, arith, refl, sym, ◌∙◌, ap, subst, get_or-set_other, length-drop}
 use Rattle.std.specs.List.{range_with_len}
 use Rattle.std.proofs.lemmas.List.{drop-set-lt, drop-set-add, length-set, get_or-drop}
 use Rattle.std.proofs.lemmas.List.FromFn.{length-map-range_with_len, get_or-map-range_with_len}
-use Rattle.std.proofs.lemmas.Bool.{cases_eq, cases_lt, cases_Bool, eq-eqb, ne_eqb}
+use Rattle.std.proofs.lemmas.Bool.{cases_eq, cases_lt, eq-eqb, ne_eqb}
 use Rattle.assignment_dual.specs.declared.graph.Graph.{Graph}
 use Rattle.assignment_dual.specs.Pairings.{Row, MISS, Gates, IsPairing, entry_cost, gate_cost, cost, EntryBefore}
-use Rattle.assignment_dual.specs.First.{rest, IsFirstChoice}
-use Rattle.assignment_dual.specs.Vertices.{HasArc, to_of, cost_at, IsArc, IsGraph, AreResting}
+use Rattle.assignment_dual.specs.First.{rest}
+use Rattle.assignment_dual.specs.Vertices.{HasArc, to_of, cost_at, IsGraph, AreResting}
 use Rattle.assignment_dual.specs.Search.{unseen}
-use Rattle.assignment_dual.specs.Rests.{row_at, IsGate, ShowsRest}
+use Rattle.assignment_dual.specs.Rests.{IsGate, ShowsRest}
 use Rattle.assignment_dual.specs.Choices.{IsCandidate, AreCandidates, Fails, IsFixedBy}
-use Rattle.assignment_dual.proofs.Duality.{Balances, no_cheaper, IsTight, AllTight, all_tight}
+use Rattle.assignment_dual.proofs.Duality.{Balances, no_cheaper, AllTight, all_tight}
 use Rattle.assignment_dual.proofs.First.{tail_pairs, tail_back, rest_none}
 use Rattle.assignment_dual.proofs.Turns.{unseen_set}
 use Rattle.assignment_dual.proofs.Rests.{IsReadRest, resting_prove}

@@ -1,7 +1,6 @@
 -- Feasible prices bound the cost of every pairing from below.
-use Rattle.std.proofs.Common.{◌≡◌, ◌≢◌, ◌≤◌, ◌<◌, ◌⊎◌, inl, inr, ℕ, zero, suc, ◌+◌, List, [], ◌∷◌, Bool, true, false, length, Option, Some, None, arith, refl, sym, ◌∙◌, ap, IsSome, sum, get_or, set, get_or-set_same, get_or-set_other}
+use Rattle.std.proofs.Common.{◌≡◌, ◌≢◌, ◌≤◌, ℕ, zero, suc, ◌+◌, List, [], ◌∷◌, Option, Some, None, arith, refl, sym, ap, IsSome, sum, get_or, set, get_or-set_other}
 use Rattle.std.proofs.lemmas.List.Sums.{sum_by-cons}
-use Rattle.std.proofs.lemmas.Bool.{cases_eq}
 use Rattle.assignment_dual.specs.Pairings.{Row, MISS, gate_cost, entry_cost, Gates, AllGate, Misses, Once, IsPairing, cost}
 
 -- Prices without a sign: the price of a plot is u, the price of a track is -w.

@@ -1,7 +1,7 @@
 -- The first pairing is found entry by entry.
-use Rattle.std.proofs.Common.{◌≡◌, ◌≢◌, ◌≤◌, ◌<◌, ◌⊎◌, inl, inr, ℕ, ◌+◌, List, [], ◌∷◌, Option, Some, None, IsSome, is_some, true, false, Bool, cond, eqb, arith, refl, sym, ◌∙◌, ap, subst, eq-eqb}
-use Rattle.std.proofs.lemmas.Bool.{cases_eq, cases_Bool, cases_order, eqb-true, eqb-false, ne_eqb}
-use Rattle.assignment_dual.specs.Pairings.{Row, gate_cost, entry_cost, Gates, AllGate, Misses, Once, IsPairing, cost, EntryBefore, NotAfter, ComesFirst, IsLeast}
+use Rattle.std.proofs.Common.{◌≡◌, ◌≢◌, ◌≤◌, ◌<◌, ◌⊎◌, inl, inr, ℕ, ◌+◌, List, [], ◌∷◌, Option, Some, None, is_some, true, false, Bool, cond, arith, refl, sym, ◌∙◌, ap, subst, eq-eqb}
+use Rattle.std.proofs.lemmas.Bool.{cases_order, ne_eqb}
+use Rattle.assignment_dual.specs.Pairings.{Row, gate_cost, entry_cost, Gates, AllGate, Misses, IsPairing, cost, EntryBefore, ComesFirst, IsLeast}
 use Rattle.assignment_dual.specs.First.{without, rest, IsFirstChoice}
 
 -- a gate that isn't the taken track is as before

@@ -1,11 +1,11 @@
 -- One more plot is fixed.
-use Rattle.std.proofs.Common.{◌≡◌, ◌≢◌, ◌≤◌, ◌<◌, ◌⊎◌, inl, inr, ℕ, zero, suc, ◌+◌, length, get_or, set, List, [], ◌∷◌, Option, Some, None, Bool, true, false, cond, eqb, arith, refl, sym, ◌∙◌, ap, subst, get_or-set_same, get_or-set_other, eq-eqb}
-use Rattle.std.proofs.lemmas.Bool.{cases_eq, cases_lt, cases_Bool, ne_eqb}
+use Rattle.std.proofs.Common.{◌≡◌, ◌≢◌, ◌<◌, inl, inr, ℕ, zero, suc, ◌+◌, length, get_or, set, List, [], ◌∷◌, Option, Some, None, Bool, true, false, cond, eqb, arith, refl, sym, ◌∙◌, ap, subst, get_or-set_same, get_or-set_other, eq-eqb}
+use Rattle.std.proofs.lemmas.Bool.{cases_eq, ne_eqb}
 use Rattle.assignment_dual.specs.declared.graph.Graph.{Graph}
 use Rattle.assignment_dual.specs.Vertices.{HasArc, to_of, cost_at}
 use Rattle.assignment_dual.specs.Pairings.{Row}
 use Rattle.assignment_dual.specs.First.{without, rest}
-use Rattle.assignment_dual.specs.Rests.{no_row, row_at, IsGate, ShowsRest}
+use Rattle.assignment_dual.specs.Rests.{row_at, IsGate, ShowsRest}
 
 -- the plot p stays alone
 pub shows_alone : {g : Graph} {n tracks p : ℕ} {gone : List Bool} {row : Row} {rows : List Row} → ShowsRest g n tracks gone p (row ∷ rows) → length gone ≡ n → ShowsRest g n tracks (set gone p true) (p + 1) rows

@@ -1,10 +1,10 @@
 -- The path from a node back to the root is turned.
-use Rattle.std.proofs.Common.{◌≡◌, ◌≢◌, ◌≤◌, ◌<◌, ◌⊎◌, inl, inr, ℕ, zero, suc, ◌+◌, length, get_or, Bool, true, false, List, arith, refl, sym, ◌∙◌, ap, subst}
+use Rattle.std.proofs.Common.{◌≡◌, ◌≢◌, ◌<◌, ◌⊎◌, inl, inr, ℕ, zero, suc, length, get_or, Bool, List, arith, refl, sym, ◌∙◌, ap, subst}
 use Rattle.std.proofs.lemmas.Bool.{cases_eq, cases_lt}
 use Rattle.assignment_dual.specs.declared.graph.Graph.{Graph}
 use Rattle.assignment_dual.specs.declared.search.Node.{Node}
 use Rattle.assignment_dual.specs.Pairings.{MISS}
-use Rattle.assignment_dual.specs.Vertices.{Across, IsGraph, IsPriced, TightArc, Tight, AreMates, IsArc}
+use Rattle.assignment_dual.specs.Vertices.{Across, IsGraph, Tight, AreMates}
 use Rattle.assignment_dual.specs.Search.{vertex_at, from_at, mate_at, IsSearchTree, ArePaired, IsEnd, IsPlaced, AreTurned, AreParted}
 use Rattle.assignment_dual.proofs.Turns.{across_differ, across_back, across_thrice, across_at, mates_across, by_turn, back_arc, turned_mates}
 use Rattle.assignment_dual.proofs.Trees.{root_apart, mate_side}

@@ -1,7 +1,7 @@
 -- The entries before a plot, and the rows that are left.
-use Rattle.std.proofs.Common.{◌≡◌, ◌≢◌, ◌≤◌, ◌<◌, ◌⊎◌, inl, inr, ℕ, ◌+◌, length, get_or, List, [], ◌∷◌, ◌++◌, Option, Some, None, Bool, true, false, arith, refl, sym, ◌∙◌, ap, subst}
+use Rattle.std.proofs.Common.{◌≡◌, ◌≢◌, ◌≤◌, ◌<◌, inr, ℕ, ◌+◌, get_or, List, [], ◌∷◌, ◌++◌, Option, Bool, false, arith, refl, ◌∙◌, ap, subst}
 use Rattle.assignment_dual.specs.declared.graph.Graph.{Graph}
-use Rattle.assignment_dual.specs.Pairings.{Row, IsPairing, IsLeast}
+use Rattle.assignment_dual.specs.Pairings.{Row, IsLeast}
 use Rattle.assignment_dual.specs.First.{rest}
 use Rattle.assignment_dual.specs.Vertices.{AreResting}
 use Rattle.assignment_dual.specs.Rests.{ShowsRest}

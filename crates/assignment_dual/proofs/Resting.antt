@@ -1,10 +1,10 @@
 -- A vertex is taken out, or comes back.
-use Rattle.std.proofs.Common.{◌≡◌, ◌≢◌, ◌≤◌, ◌<◌, ◌⊎◌, inl, inr, ℕ, ◌+◌, length, get_or, set, true, false, Bool, List, arith, refl, sym, ◌∙◌, ap, subst, get_or-set_same, get_or-set_other}
+use Rattle.std.proofs.Common.{◌≡◌, ◌≢◌, ◌≤◌, ◌<◌, ◌⊎◌, inl, inr, ℕ, length, get_or, set, true, false, Bool, List, arith, sym, ◌∙◌, ap, get_or-set_same, get_or-set_other}
 use Rattle.std.proofs.lemmas.List.{length-set}
 use Rattle.std.proofs.lemmas.Bool.{cases_eq, cases_Bool}
 use Rattle.assignment_dual.specs.declared.graph.Graph.{Graph}
 use Rattle.assignment_dual.specs.Pairings.{MISS}
-use Rattle.assignment_dual.specs.Vertices.{HasArc, to_of, cost_at, IsGraph, IsPriced, TightArc, Tight, AreMates, OthersPay, IsSettled, AreResting}
+use Rattle.assignment_dual.specs.Vertices.{to_of, IsPriced, AreMates, OthersPay, IsSettled, AreResting}
 use Rattle.assignment_dual.specs.Search.{AreParted}
 use Rattle.assignment_dual.proofs.Paths.{parted_mates}
 

@@ -1,11 +1,11 @@
 -- What the vertices that aren't gone say of the rest of the batch.
-use Rattle.std.proofs.Common.{◌≡◌, ◌≢◌, ◌≤◌, ◌<◌, ◌⊎◌, inl, inr, ℕ, zero, suc, ◌+◌, ◌-◌, length, get_or, List, [], ◌∷◌, Option, Some, None, is_some, IsSome, Bool, true, false, arith, refl, sym, ◌∙◌, ap, subst}
+use Rattle.std.proofs.Common.{◌≡◌, ◌≢◌, ◌≤◌, ◌<◌, ◌⊎◌, inl, inr, ℕ, zero, suc, ◌+◌, ◌-◌, length, get_or, List, [], ◌∷◌, Option, Some, None, is_some, Bool, true, false, arith, refl, sym, ◌∙◌, ap, subst}
 use Rattle.std.proofs.lemmas.Bool.{cases_eq, cases_lt, cases_Bool}
 use Rattle.assignment_dual.specs.declared.graph.Graph.{Graph}
 use Rattle.assignment_dual.specs.Pairings.{Row, MISS, gate_cost, Gates, AllGate, Misses, Once, IsPairing}
-use Rattle.assignment_dual.specs.Vertices.{Across, HasArc, to_of, cost_at, IsArc, IsGraph, IsPriced, TightArc, Tight, AreMates, AreResting}
-use Rattle.assignment_dual.specs.Rests.{no_row, row_at, IsGate, ShowsRest}
-use Rattle.assignment_dual.proofs.Duality.{RowFeasible, Feasible, Balances, IsTight, AllTight, balances}
+use Rattle.assignment_dual.specs.Vertices.{Across, to_of, cost_at, IsGraph, Tight, AreResting}
+use Rattle.assignment_dual.specs.Rests.{row_at, IsGate, ShowsRest}
+use Rattle.assignment_dual.proofs.Duality.{Feasible, Balances, IsTight, AllTight, balances}
 use Rattle.assignment_dual.proofs.Signed.{feasible_from}
 use Rattle.assignment_dual.proofs.Shifts.{priced_past, false_true}
 

@@ -1,7 +1,7 @@
 -- The first pairing of two sets apart is the two first pairings put together.
-use Rattle.std.proofs.Common.{◌≡◌, ◌≢◌, ◌≤◌, ◌<◌, ◌⊎◌, ℕ, ◌+◌, List, [], ◌∷◌, Bool, true, false, length, Option, Some, None, arith, refl, sym, ◌∙◌, ap, IsSome}
+use Rattle.std.proofs.Common.{◌≡◌, ◌≢◌, ◌<◌, ◌⊎◌, ℕ, ◌+◌, List, [], ◌∷◌, Bool, true, false, length, Option, Some, None, arith, refl, ◌∙◌, ap, IsSome}
 use mathlib.Core.Logic.{inl, inr}
-use Rattle.assignment_dual.specs.Pairings.{Row, MISS, gate_cost, entry_cost, Gates, AllGate, Misses, Once, IsPairing, cost, EntryBefore, NotAfter, ComesFirst, IsLeast, part, GatesNone, Apart}
+use Rattle.assignment_dual.specs.Pairings.{Row, Gates, AllGate, Misses, Once, IsPairing, cost, NotAfter, IsLeast, part, GatesNone, Apart}
 
 abbrev pub SameLength : {X Y : Type 0} → List X → List Y → Type 0
 SameLength [] [] = Unit {0}

@@ -1,14 +1,14 @@
 -- Prices after a shift.
-use Rattle.std.proofs.Common.{◌≡◌, ◌≢◌, ◌≤◌, ◌<◌, ◌⊎◌, inl, inr, ℕ, ◌+◌, length, get_or, set, true, false, Bool, List, [], ◌∷◌, arith, refl, sym, ◌∙◌, ap, subst, get_or-set_same, get_or-set_other}
+use Rattle.std.proofs.Common.{◌≡◌, ◌≢◌, ◌≤◌, ◌<◌, inl, inr, ℕ, ◌+◌, length, get_or, true, false, Bool, List, [], ◌∷◌, arith, refl, sym, ◌∙◌, ap, subst}
 use Rattle.std.proofs.lemmas.List.{get_or_past}
-use Rattle.std.proofs.lemmas.Bool.{cases_eq, cases_lt, cases_Bool}
+use Rattle.std.proofs.lemmas.Bool.{cases_lt}
 use Rattle.assignment_dual.specs.declared.graph.Graph.{Graph}
 use Rattle.assignment_dual.specs.declared.search.Node.{Node}
 use Rattle.assignment_dual.specs.Pairings.{MISS}
-use Rattle.assignment_dual.specs.Vertices.{Across, HasArc, to_of, cost_at, GoesBack, IsArc, IsGraph, IsPriced, TightArc, Tight, AreMates, OthersPay, IsSettled}
-use Rattle.assignment_dual.specs.Search.{SeenAcross, IsSwept, vertex_at, from_at, mate_at, IsSearchTree, ArePaired, IsExhausted, IsPlaced}
+use Rattle.assignment_dual.specs.Vertices.{Across, HasArc, to_of, cost_at, GoesBack, IsArc, IsGraph, IsPriced, Tight, AreMates, OthersPay, IsSettled}
+use Rattle.assignment_dual.specs.Search.{IsSwept, vertex_at, from_at, mate_at, IsSearchTree, ArePaired, IsExhausted, IsPlaced}
 use Rattle.assignment_dual.specs.Rising.{Rises, HasRoom, IsTree, AllHaveRoom, Moved, AreShifted}
-use Rattle.assignment_dual.proofs.Turns.{across_differ, across_back, across_thrice, across_at, mates_across}
+use Rattle.assignment_dual.proofs.Turns.{across_differ, across_back, across_thrice, mates_across}
 
 pub record Roomy (g : Graph) (qs : List ℕ) (seen : List Bool) (x k d : ℕ) : Type 0 where
   pub some : 0 < d

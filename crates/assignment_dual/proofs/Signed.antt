@@ -1,6 +1,5 @@
 -- Prices with a sign, and the same without.
-use Rattle.std.proofs.Common.{◌≡◌, ◌≢◌, ◌≤◌, ◌<◌, ◌⊎◌, inl, inr, ℕ, zero, suc, ◌+◌, ◌==◌, ◌&&◌, List, [], ◌∷◌, Bool, true, false, cond, eqb, length, Option, Some, None, arith, refl, sym, ◌∙◌, ap, subst, sum, get_or, map, ℤ, pos, negsuc, ◌+ℤ◌, ◌≤ℤ◌, fold}
-use Rattle.std.specs.List.{All, range_with_len}
+use Rattle.std.proofs.Common.{◌≡◌, ◌≤◌, ◌<◌, inl, inr, ℕ, zero, suc, ◌+◌, ◌==◌, ◌&&◌, List, [], ◌∷◌, Bool, cond, length, Option, Some, None, arith, refl, sym, ◌∙◌, ap, subst, sum, get_or, map, ℤ, pos, negsuc, ◌+ℤ◌, ◌≤ℤ◌, fold}
 use Rattle.std.proofs.lemmas.Int.{ints}
 use Rattle.std.proofs.lemmas.List.FromFn.{length-map-range_with_len, get_or-map-range_with_len}
 use Rattle.std.proofs.lemmas.Bool.{cases_eq, eq-eqb, ne_eqb}

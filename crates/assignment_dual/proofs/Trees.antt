@@ -1,13 +1,13 @@
 -- A search tree that grows.
-use Rattle.std.proofs.Common.{◌≡◌, ◌≢◌, ◌≤◌, ◌<◌, ◌⊎◌, inl, inr, ℕ, zero, suc, ◌+◌, length, get_or, set, true, false, Bool, List, [], ◌∷◌, ◌++◌, arith, refl, sym, ◌∙◌, ap, subst, get_or-set_same, get_or-set_other}
+use Rattle.std.proofs.Common.{◌≡◌, ◌≢◌, ◌≤◌, ◌<◌, inl, inr, ℕ, zero, suc, ◌+◌, length, get_or, set, true, false, Bool, List, [], ◌∷◌, ◌++◌, arith, refl, sym, ◌∙◌, ap, subst, get_or-set_same}
 use Rattle.std.proofs.lemmas.List.{get_or_append_left, length_push}
 use Rattle.std.proofs.Math.Seq.{get_or-append_seam}
-use Rattle.std.proofs.lemmas.Bool.{cases_eq, cases_lt, cases_Bool}
+use Rattle.std.proofs.lemmas.Bool.{cases_lt}
 use Rattle.assignment_dual.specs.declared.graph.Graph.{Graph}
 use Rattle.assignment_dual.specs.declared.search.Node.{Node}
 use Rattle.assignment_dual.specs.Pairings.{MISS}
-use Rattle.assignment_dual.specs.Vertices.{Across, HasArc, to_of, cost_at, GoesBack, IsArc, IsGraph, IsPriced, TightArc, Tight, AreMates, OthersPay}
-use Rattle.assignment_dual.specs.Search.{SeenAcross, unseen, IsSwept, no_node, vertex_at, from_at, mate_at, IsSearchTree, ArePaired, IsEnd, IsExhausted, GoesOn, IsPlaced, AreTurned, AreParted}
+use Rattle.assignment_dual.specs.Vertices.{Across, HasArc, to_of, cost_at, IsGraph, IsPriced, TightArc, Tight, AreMates, OthersPay}
+use Rattle.assignment_dual.specs.Search.{unseen, IsSwept, no_node, vertex_at, from_at, mate_at, IsSearchTree, ArePaired, IsEnd, GoesOn}
 use Rattle.assignment_dual.proofs.Turns.{across_differ, across_back, across_thrice, across_at, mates_across, seen_set, seen_kept, unseen_set, across_set, swept_more, arcs_next}
 
 push_old : (tree : List Node) (a : Node) (i : ℕ) → i < length tree → get_or (tree ++ a ∷ []) i no_node ≡ get_or tree i no_node

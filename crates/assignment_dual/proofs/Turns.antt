@@ -1,10 +1,10 @@
 -- A vertex and its mates, before and after a turn; vertices that are seen.
-use Rattle.std.proofs.Common.{◌≡◌, ◌≢◌, ◌≤◌, ◌<◌, ◌⊎◌, inl, inr, ℕ, ◌+◌, length, get_or, set, true, false, Bool, cond, not, List, arith, refl, sym, ◌∙◌, ap, subst, get_or-set_same, get_or-set_other}
+use Rattle.std.proofs.Common.{◌≡◌, ◌≢◌, ◌<◌, ◌⊎◌, inl, inr, ℕ, ◌+◌, length, get_or, set, true, false, Bool, cond, not, List, arith, refl, sym, ◌∙◌, ap, subst, get_or-set_same, get_or-set_other}
 use Rattle.std.proofs.lemmas.List.Sums.{sum_by-set}
-use Rattle.std.proofs.lemmas.Bool.{cases_eq, cases_lt, cases_Bool}
+use Rattle.std.proofs.lemmas.Bool.{cases_eq, cases_lt}
 use Rattle.assignment_dual.specs.declared.graph.Graph.{Graph}
 use Rattle.assignment_dual.specs.Pairings.{MISS}
-use Rattle.assignment_dual.specs.Vertices.{Across, HasArc, to_of, cost_at, GoesBack, IsArc, IsGraph, IsPriced, TightArc, Tight, AreMates, OthersPay}
+use Rattle.assignment_dual.specs.Vertices.{Across, HasArc, to_of, cost_at, GoesBack, IsArc, IsGraph, TightArc, Tight, AreMates}
 use Rattle.assignment_dual.specs.Search.{SeenAcross, unseen, IsSwept, AreTurned}
 
 pub across_differ : {p x y : ℕ} → Across p x y → x ≢ y

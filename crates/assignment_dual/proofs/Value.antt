@@ -1,5 +1,5 @@
 -- The sum of all prices tells the least cost.
-use Rattle.std.proofs.Common.{◌≡◌, ◌≢◌, ◌≤◌, ◌<◌, ◌⊎◌, inl, inr, ℕ, zero, suc, ◌+◌, ◌*◌, ◌-◌, length, get_or, drop, sum, count_by, cond, not, List, [], ◌∷◌, Option, Bool, true, false, arith, refl, sym, ◌∙◌, ap, subst, length-drop}
+use Rattle.std.proofs.Common.{◌≡◌, ◌≤◌, ◌<◌, ℕ, zero, suc, ◌+◌, ◌*◌, ◌-◌, length, get_or, drop, sum, cond, not, List, [], ◌∷◌, Option, Bool, true, false, arith, refl, sym, ◌∙◌, ap, subst, length-drop}
 use Rattle.std.proofs.lemmas.List.{get_or-drop}
 use Rattle.std.proofs.lemmas.List.Sums.{sum_by-cons}
 use Rattle.assignment_dual.specs.declared.graph.Graph.{Graph}

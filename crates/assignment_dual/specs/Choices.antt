@@ -1,5 +1,5 @@
 -- The entries of the least pairing are chosen plot by plot.
-use Rattle.std.specs.Prelude.{◌≡◌, ◌≢◌, ◌≤◌, ◌<◌, ℕ, ◌+◌, List, ◌∷◌, length, get_or, Option, Bool, true, false, sum, slice_set}
+use Rattle.std.specs.Prelude.{◌≡◌, ◌≢◌, ◌<◌, ℕ, ◌+◌, List, length, get_or, Option, Bool, true, false, sum, slice_set}
 use Rattle.assignment_dual.specs.declared.graph.Graph.{Graph}
 use Rattle.assignment_dual.specs.Pairings.{Row, MISS}
 use Rattle.assignment_dual.specs.First.{rest, IsFirstChoice}

@@ -1,5 +1,5 @@
 -- A batch's rows, shown by the vertices that are left.
-use Rattle.std.specs.Prelude.{◌≡◌, ◌≤◌, ◌<◌, ℕ, ◌+◌, List, length, get_or, Option, Some, None, Bool, true, false}
+use Rattle.std.specs.Prelude.{◌≡◌, ◌≤◌, ◌<◌, ℕ, ◌+◌, List, length, get_or, Some, None, Bool, true, false}
 use Rattle.assignment_dual.specs.declared.graph.Graph.{Graph}
 use Rattle.assignment_dual.specs.Vertices.{HasArc, to_of, cost_at}
 use Rattle.assignment_dual.specs.Pairings.{Row}

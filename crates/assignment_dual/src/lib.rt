@@ -1,10 +1,15 @@
 //! The least pairing of a batch's plots with tracks, and prices that prove it least.
 //!
-//! A pairing costs the gate of each plot that gets a track, and `MISS` for each that gets none.
+//! A pairing costs the gate of each plot that gets a track, and 4,097 for each that gets none.
 //! The least pairing is an optimum of the assignment problem: it is found by shortest augmenting
-//! paths, a vertex at a time, with the dual prices of Kuhn and Munkres, in the form of Jonker and
-//! Volgenant ("A shortest augmenting path algorithm for dense and sparse linear assignment
-//! problems", Computing 38, 1987).
+//! paths, a vertex at a time, with the dual prices of Kuhn and Munkres, after Jonker and Volgenant
+//! ("A shortest augmenting path algorithm for dense and sparse linear assignment problems",
+//! Computing 38, 1987).
+//!
+//! Plots and tracks are vertices alike: each pays 4,097 by itself, or shares with a mate the cost
+//! of their edge and 4,097. So prices have no sign until they are read, a track that stays free
+//! needs no rule of its own, and one step adds a plot or a track. The choice among pairings of
+//! equal cost needs both: it takes them out one by one.
 #![tactic(auto)]
 
 mod build;

@@ -1,4 +1,4 @@
-use Rattle.std.proofs.Common.{◌≡◌, ◌≢◌, ◌<◌, ℕ, length, get_or, set, refl, sym, subst, List, ap, ◌∙◌}
+use Rattle.std.proofs.Common.{◌≡◌, ◌<◌, ℕ, length, get_or, set, refl, sym, subst, ap, ◌∙◌}
 use Rattle.std.proofs.lemmas.List.{length-set}
 use Rattle.assignment_dual.specs.Vertices.{IsPriced, AreMates, OthersPay, IsSettled}
 use Rattle.assignment_dual.proofs.Resting.{AreOut, out_parted, out_priced, out_mates, out_pay, rests_without, rests_alone}

@@ -1,4 +1,4 @@
-use Rattle.std.proofs.Common.{◌≡◌, ◌<◌, ℕ, length}
+use Rattle.std.proofs.Common.{length}
 use Rattle.assignment_dual.proofs.Adding.{Adding}
 use Rattle.assignment_dual.proofs.place.settle_all.Given as goal
 

@@ -1,6 +1,5 @@
-use Rattle.std.proofs.Common.{◌≡◌, ◌≤◌, ◌<◌, ℕ, ◌+◌, length, get_or, arith, sym, subst}
-use Rattle.assignment_dual.specs.Rising.{Rises, HasRoom}
-use Rattle.assignment_dual.proofs.Shifts.{RoomyBelow, roomy_more, less_room}
+use Rattle.std.proofs.Common.{arith}
+use Rattle.assignment_dual.proofs.Shifts.{roomy_more, less_room}
 use Rattle.assignment_dual.proofs.raise.least_room.Goals as goal
 use Rattle.assignment_dual.proofs.raise.least_room.Goals.{then-rises+then-free-least, then-rises+else-free-least, else-rises}
 

@@ -1,4 +1,3 @@
-use Rattle.std.proofs.Common.{◌≡◌, ◌≢◌, ◌≤◌, ◌<◌, ℕ, ◌+◌, length, get_or, true, false}
 use Rattle.assignment_dual.proofs.Shifts.{ShiftedBelow}
 use Rattle.assignment_dual.proofs.raise.shift.Given as goal
 

@@ -1,4 +1,4 @@
-use Rattle.std.proofs.Common.{◌<◌, ℕ, length, subst, sym, arith}
+use Rattle.std.proofs.Common.{arith}
 use Rattle.assignment_dual.proofs.Trees.{growing_next}
 use Rattle.assignment_dual.proofs.search.grow.Goals as goal
 

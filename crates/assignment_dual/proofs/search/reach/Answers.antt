@@ -1,8 +1,8 @@
-use Rattle.std.proofs.Common.{◌≡◌, ◌≢◌, ◌<◌, ℕ, length, get_or, List, ap, sym, subst, ◌∙◌, arith}
+use Rattle.std.proofs.Common.{◌≡◌, ℕ, get_or, List, ap, subst, ◌∙◌}
 use Rattle.assignment_dual.specs.declared.search.Node.{Node}
-use Rattle.assignment_dual.specs.Search.{no_node, vertex_at, from_at, mate_at, IsEnd, AreParted}
+use Rattle.assignment_dual.specs.Search.{no_node, vertex_at, mate_at, IsEnd, AreParted}
 use Rattle.assignment_dual.proofs.Columns.{node_read}
-use Rattle.assignment_dual.proofs.Paths.{turning_first, turning_apart, turning_step, turned_whole}
+use Rattle.assignment_dual.proofs.Paths.{turning_first, turning_apart, turning_step}
 use Rattle.assignment_dual.proofs.search.reach.Goals as goal
 
 pub path-init : goal.path-init

@@ -1,6 +1,6 @@
-use Rattle.std.proofs.Common.{◌≡◌, ◌≤◌, ◌<◌, ◌+◌, arith, get_or, length, ap, sym, subst, ℕ}
+use Rattle.std.proofs.Common.{◌≡◌, ◌<◌, arith, get_or, length, ap, sym, subst, ℕ}
 use Rattle.assignment_dual.specs.declared.graph.Arc.{Arc}
-use Rattle.assignment_dual.specs.Vertices.{IsArc, no_arc, to_of, cost_at}
+use Rattle.assignment_dual.specs.Vertices.{IsArc, to_of, cost_at}
 use Rattle.assignment_dual.proofs.Columns.{arc_read}
 use Rattle.assignment_dual.proofs.search.slack.Goals as goal
 

@@ -1,4 +1,4 @@
-use Rattle.std.proofs.Common.{◌≡◌, ◌≢◌, ◌≤◌, ◌<◌, ℕ, ◌+◌, length, get_or, true, false, Bool, List, set, arith, subst, sym, ◌∙◌, ap, ◌-◌}
+use Rattle.std.proofs.Common.{◌≡◌, ◌≢◌, ◌<◌, ℕ, length, get_or, true, List, arith, subst, sym, ◌∙◌, ap, ◌-◌}
 use Rattle.std.proofs.lemmas.List.{length-set}
 use Rattle.assignment_dual.specs.declared.search.Node.{Node}
 use Rattle.assignment_dual.specs.Pairings.{MISS}

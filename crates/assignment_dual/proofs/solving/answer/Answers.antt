@@ -1,4 +1,4 @@
-use Rattle.std.proofs.Common.{◌≡◌, subst, sym, ap, ◌∙◌, List, ℕ, length, arith, rules, map, take, drop, pos, ◌-ℤ◌, ◌*◌, ◌-◌, sum, Option, to_z, of_z, w64}
+use Rattle.std.proofs.Common.{◌≡◌, subst, sym, ap, ◌∙◌, List, ℕ, length, rules, map, take, drop, pos, ◌-ℤ◌, ◌*◌, ◌-◌, sum, Option, to_z, of_z, w64}
 use Rattle.std.proofs.lemmas.Int.{to_z-of_z}
 use Rattle.assignment_dual.specs.Pairings.{Row, MISS, IsLeast}
 use Rattle.assignment_dual.specs.Rests.{ShowsRest}

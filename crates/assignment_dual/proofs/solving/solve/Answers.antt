@@ -1,4 +1,4 @@
-use Rattle.std.proofs.Common.{◌≡◌, ◌+◌, ℕ, List, Bool, false, length, get_or, ap, subst, sym, ◌∙◌}
+use Rattle.std.proofs.Common.{◌≡◌, ◌+◌, ℕ, false, length, get_or, ap, subst, sym, ◌∙◌}
 use Rattle.assignment_dual.specs.Problems.{Problem, IsProblem, rows_of}
 use Rattle.assignment_dual.specs.Rests.{ShowsRest}
 use Rattle.assignment_dual.proofs.Answer.{ok_then, all_false}

@@ -1,4 +1,4 @@
-use Rattle.std.proofs.Common.{◌≡◌, ◌<◌, ◌+◌, arith, get_or, length}
+use Rattle.std.proofs.Common.{◌<◌, ◌+◌, arith, length}
 use Rattle.std.proofs.lemmas.List.{get_or_default}
 use Rattle.assignment_dual.proofs.Candidates.{collecting_skip, collecting_more, collected}
 use Rattle.assignment_dual.proofs.tie.candidates.Goals as goal

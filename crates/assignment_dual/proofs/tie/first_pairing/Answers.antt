@@ -1,9 +1,9 @@
-use Rattle.std.proofs.Common.{◌≡◌, ◌<◌, ℕ, length, List, Option, subst, sym, ap, ◌∙◌, ◌∷◌}
+use Rattle.std.proofs.Common.{◌≡◌, ℕ, length, List, subst, ◌∷◌}
 use Rattle.assignment_dual.specs.Pairings.{Row}
 use Rattle.assignment_dual.specs.Rests.{ShowsRest}
 use Rattle.assignment_dual.specs.Vertices.{AreResting}
-use Rattle.assignment_dual.specs.Choices.{AreCandidates, IsFixedBy}
-use Rattle.assignment_dual.proofs.Prefixes.{Choosing, choosing_first, choosing_next, chosen}
+use Rattle.assignment_dual.specs.Choices.{IsFixedBy}
+use Rattle.assignment_dual.proofs.Prefixes.{choosing_first, choosing_next, chosen}
 use Rattle.assignment_dual.proofs.tie.first_pairing.Goals as goal
 
 pub loop-p-init : goal.loop-p-init

@@ -1,4 +1,4 @@
-use Rattle.std.proofs.Common.{◌≡◌, ◌≤◌, ◌<◌, ℕ, ◌+◌, ◌*◌, length, get_or, sum, List, Bool, true, false, set, arith, refl, sym, ◌∙◌, ap, subst, get_or-set_same}
+use Rattle.std.proofs.Common.{◌≡◌, ◌≤◌, ◌<◌, ℕ, ◌*◌, length, get_or, sum, List, Bool, true, false, arith, refl, ◌∙◌, ap, subst, get_or-set_same}
 use Rattle.assignment_dual.specs.Vertices.{AreResting}
 use Rattle.assignment_dual.proofs.Candidates.{Tried, tried, sum_small, track_here, trying_next, fixed_track, fixed_none, others_track, others_none}
 use Rattle.assignment_dual.proofs.tie.fix_plot.Goals as goal
