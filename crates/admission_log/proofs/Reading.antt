@@ -1,0 +1,142 @@
+-- A datagram, read block by block: what the delivery holds, and where the first fault is.
+use Rattle.std.proofs.Common.{◌≡◌, ◌∙◌, ap, sym, subst, refl, ℕ, ◌+◌, ◌*◌, ◌<◌, ◌≤◌, List, [], ◌∷◌, ◌++◌, length, map, take, drop, Result, Ok, Err, Bool, true, false, cond, arith, length-append, append_assoc, append-nil}
+use Rattle.std.specs.Prelude.{count_by}
+use Rattle.std.specs.List.{flat_map, filter_map, AllByRecursion}
+use Rattle.std.proofs.lemmas.List.{drop_all}
+use Rattle.std.proofs.lemmas.Grind.{flat_map-append}
+use Rattle.std.proofs.lemmas.List.Sums.{sum_by-append}
+use Rattle.asterix_frame.specs.declared.block.Block.{Block}
+use Rattle.asterix_frame.specs.declared.block.Malformed.{Malformed}
+use Rattle.asterix_frame.specs.Tables.{category_of}
+use Rattle.asterix_frame.specs.Blocks.{DataBlock, spelled}
+use Rattle.asterix_frame.specs.Places.{data_block, BeginsBlock}
+use Rattle.asterix_frame.specs.Answers.{BeginsNoBlock}
+use Rattle.asterix_frame.specs.Datagrams.{Content, IsContent, IsDatagram, DatagramFault, BeginsNoContent, BeginsFaultyBlock, no_block, no_records, block_of, datagram_of}
+use Rattle.admission_log.specs.declared.settings.Settings.{Settings}
+use Rattle.admission_log.specs.declared.delivery.Delivery.{Delivery}
+use Rattle.asterix_frame.proofs.Datagrams.{first_fault}
+use Rattle.admission_log.specs.declared.events.Event.TheVariants.{Deliver}
+use Rattle.admission_log.specs.Messages.{messages_in, messages_of, is_other, other_count}
+use Rattle.admission_log.specs.Deliveries.{admitted_by, judged_all, delivery}
+use Rattle.admission_log.specs.Brought.{Brings, BringsBlock, IsFaultOfBlock}
+use Rattle.admission_log.proofs.Bringing.{judged_all-append, brings_none, brings_more}
+
+-- nothing yet
+abbrev pub fresh : ℕ → Delivery
+fresh next = record { next = next; admitted = []; outcomes = []; other = 0 }
+
+-- the delivery holds what these blocks bring, and they are the datagram up to that place
+pub record Holds (settings : Settings) (last next : ℕ) (datagram : List ℕ) (from : ℕ) (d : Delivery) (contents : List Content) : Type 0 where
+  pub are_contents : AllByRecursion IsContent contents
+  pub whole : datagram ≡ datagram_of contents ++ drop from datagram
+  pub place : from ≡ length (datagram_of contents)
+  pub within : from ≤ length datagram
+  pub brings : Brings (judged_all settings last next (messages_of contents)) (fresh next) d
+  pub other : d.other ≡ other_count contents
+  pub few : 3 * d.other ≤ from
+
+pub holds_none : (settings : Settings) (last next : ℕ) (datagram : List ℕ) → Holds settings last next datagram 0 (fresh next) []
+holds_none settings last next datagram = record {
+  are_contents = tt;
+  whole = refl;
+  place = refl;
+  within = omega arith;
+  brings = brings_none (fresh next);
+  other = refl;
+  few = omega arith;
+}
+
+all_more : (contents : List Content) (c : Content) → AllByRecursion IsContent contents → IsContent c → AllByRecursion IsContent (contents ++ c ∷ [])
+all_more [] c all is = (is, tt)
+all_more (x ∷ xs) c all is = (all.0, all_more xs c all.1 is)
+
+datagram-more : (contents : List Content) (c : Content) (b : DataBlock) → block_of c ≡ b → datagram_of (contents ++ c ∷ []) ≡ datagram_of contents ++ spelled b
+datagram-more contents c b same =
+    flat_map-append (λ x. spelled (block_of x)) contents (c ∷ []) ∙ ap (λ t. datagram_of contents ++ t) (append-nil (spelled (block_of c)) ∙ ap spelled same)
+
+messages-more : (contents : List Content) (c : Content) → messages_of (contents ++ c ∷ []) ≡ messages_of contents ++ messages_in c
+messages-more contents c = flat_map-append messages_in contents (c ∷ []) ∙ ap (λ t. messages_of contents ++ t) (append-nil (messages_in c))
+
+other-more : (contents : List Content) (c : Content) → other_count (contents ++ c ∷ []) ≡ other_count contents + other_count (c ∷ [])
+other-more contents c = sum_by-append (λ x. cond (is_other x) 1 0) contents (c ∷ [])
+
+one_other : (c : Content) → other_count (c ∷ []) ≤ 1
+one_other c = elim (is_other c) as (λ b. 0 + cond b 1 0 ≤ 1) [ true ↦ omega arith | false ↦ omega arith ]
+
+-- one more block
+pub holds_more : (settings : Settings) (last next : ℕ) (datagram : List ℕ) (from : ℕ) (old new : Delivery) (contents : List Content) (block : Block) (c : Content)
+    → Holds settings last next datagram from old contents → BeginsBlock datagram from block → IsContent c → block_of c ≡ data_block block → BringsBlock settings last c old new
+    → (end : ℕ) → end ≡ block.at + length block.body.now → Holds settings last next datagram end new (contents ++ c ∷ [])
+holds_more settings last next datagram from old new contents block c h begins is same brings end end_is =
+    let js = judged_all settings last next (messages_of contents) in
+    let ks = judged_all settings last (next + length (filter_map admitted_by js)) (messages_in c) in
+    let rest = drop end datagram in
+    let grown = datagram-more contents c (data_block block) same in
+    let octets : drop from datagram ≡ spelled (data_block block) ++ rest = begins.octets ∙ ap (λ k. spelled (data_block block) ++ drop k datagram) (sym end_is) in
+    let judged : js ++ ks ≡ judged_all settings last next (messages_of (contents ++ c ∷ [])) =
+    sym (judged_all-append settings last next (messages_of contents) (messages_in c)) ∙ ap (judged_all settings last next) (sym (messages-more contents c)) in
+    let then : Brings ks old new = subst (λ n. Brings (judged_all settings last n (messages_in c)) old new) h.brings.next brings.0 in
+    record {
+      are_contents = all_more contents c h.are_contents is;
+      whole = h.whole ∙ ap (λ t. datagram_of contents ++ t) octets ∙ sym (append_assoc (datagram_of contents) (spelled (data_block block)) rest) ∙ sym (ap (λ t. t ++ rest) grown);
+      place = omega (arith, end_is, begins.place, h.place, ap length grown, length-append (datagram_of contents) (spelled (data_block block)));
+      within = omega (arith, end_is, begins.within);
+      brings = subst (λ t. Brings t (fresh next) new) judged (brings_more js ks (fresh next) old new h.brings then);
+      other = omega (arith, brings.1, h.other, other-more contents c);
+      few = omega (arith, brings.1, h.few, one_other c, end_is, begins.place);
+    }
+
+-- ---- how it ends
+
+pub is_datagram : (settings : Settings) (last next : ℕ) (datagram : List ℕ) (from : ℕ) (d : Delivery) (contents : List Content) → Holds settings last next datagram from d contents → length datagram ≤ from → IsDatagram datagram contents
+is_datagram settings last next datagram from d contents h over = record {
+  are_contents = h.are_contents;
+  whole = h.whole ∙ ap (λ t. datagram_of contents ++ t) (drop_all from datagram over) ∙ append-nil (datagram_of contents);
+}
+
+pub head_fault : (settings : Settings) (last next : ℕ) (datagram : List ℕ) (from : ℕ) (d : Delivery) (contents : List Content) (m : Malformed) → Holds settings last next datagram from d contents → BeginsNoBlock datagram from m → DatagramFault datagram m.offset m.cause
+head_fault settings last next datagram from d contents m h none = record {
+  front = contents;
+  rest = drop from datagram;
+  inside = none.inside;
+  are_contents = h.are_contents;
+  whole = h.whole;
+  none = no_block none.none;
+  place = omega (arith, none.place, h.place);
+}
+
+pub records_fault : (settings : Settings) (last next : ℕ) (datagram : List ℕ) (from : ℕ) (d : Delivery) (contents : List Content) (block : Block) (m : Malformed) → Holds settings last next datagram from d contents → BeginsBlock datagram from block → IsFaultOfBlock block m → DatagramFault datagram m.offset m.cause
+records_fault settings last next datagram from d contents block m h begins fault =
+    let back = sym fault.category in
+    let same : data_block block ≡ record { category = category_of fault.uap; body = block.body.now } = λ i. record { category = back i; body = block.body.now } in
+    let rest = drop (block.at + length block.body.now) datagram in
+    let faulty : BeginsFaultyBlock (drop from datagram) (3 + fault.fault.place) m.cause = record {
+      uap = fault.uap;
+      body = block.body.now;
+      rest = rest;
+      place = fault.fault.place;
+      is_read = fault.is_read;
+      is_block = begins.fits;
+      begins = begins.octets ∙ ap (λ b. spelled b ++ rest) same;
+      fault = fault.fault.fault;
+      inside_is = refl;
+    } in
+    record {
+      front = contents;
+      rest = drop from datagram;
+      inside = 3 + fault.fault.place;
+      are_contents = h.are_contents;
+      whole = h.whole;
+      none = no_records faulty;
+      place = omega (arith, fault.fault.offset, begins.place, h.place);
+    }
+
+-- a datagram has one first fault
+pub same_malformed : (datagram : List ℕ) (x m : Malformed) → DatagramFault datagram x.offset x.cause → DatagramFault datagram m.offset m.cause → x ≡ m
+same_malformed datagram x m h k =
+    let same = first_fault datagram x.offset x.cause m.offset m.cause h k in
+    λ i. record { offset = same.0 i; cause = same.1 i }
+
+-- the event of what it holds
+pub held : (settings : Settings) (last next : ℕ) (datagram : List ℕ) (from : ℕ) (d : Delivery) (contents : List Content) → Holds settings last next datagram from d contents → (feed : ℕ) → Deliver feed d.admitted d.outcomes d.other ≡ delivery settings last next feed contents
+held settings last next datagram from d contents h feed = λ i. Deliver feed (h.brings.admitted i) (h.brings.outcomes i) (h.other i)

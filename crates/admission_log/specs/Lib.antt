@@ -1,0 +1,9 @@
+pub mod Sources
+pub mod Histories
+pub mod Outcomes
+pub mod Messages
+pub mod Deliveries
+pub mod Brought
+pub mod Legality
+pub mod Logs
+pub mod Plots

@@ -1,0 +1,16 @@
+-- What a log keeps beside its events.
+use Rattle.std.specs.Prelude.{◌≡◌, ℕ, ◌<◌, ◌≤◌, ◌^◌, length}
+use Rattle.admission_log.specs.declared.log.Log.TheInside.{Inside}
+use Rattle.admission_log.specs.declared.log.TheConstants.{LIMIT}
+use Rattle.admission_log.specs.Histories.{History, last_of, next_of, published_of, cut_of}
+
+abbrev pub history : Inside → History
+history log = record { start = log.start; events = log.events }
+
+pub record IsLog (log : Inside) : Type 0 where
+  pub last : log.last ≡ last_of (history log)
+  pub next : log.next ≡ next_of (history log)
+  pub published : log.published ≡ published_of (history log)
+  pub cut : log.cut ≡ cut_of (history log)
+  pub in_time : log.last < 2 ^ 40
+  pub few : log.next ≤ LIMIT

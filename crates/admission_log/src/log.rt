@@ -1,0 +1,187 @@
+ghost use Rattle.std.specs.Prelude.{◌≡◌, ◌+◌, ◌<◌, ◌≤◌, ◌^◌, ℕ, List, [], length, map, Err, IfOk, OnOk, OnErr};
+ghost use Rattle.asterix_frame.specs.declared.block.Malformed.{Malformed};
+ghost use Rattle.asterix_frame.specs.Answers.{IfMalformed, Reads, Refuses};
+ghost use Rattle.asterix_frame.specs.Datagrams.{Content, IsDatagram, DatagramFault};
+ghost use Rattle.admission_log.specs.declared.settings.Settings.{Settings};
+ghost use Rattle.admission_log.specs.Histories.{appended, last_of, published_of, cut_of, admitted_in};
+ghost use Rattle.admission_log.specs.Deliveries.{delivery_to, outcomes_in};
+ghost use Rattle.admission_log.specs.Legality.{IsLegal};
+
+use crate::{AdmitError, Event, Outcome, Receipt, Settings, TickError, deliver};
+use std::alloc::Global;
+use std::marker::Model;
+use trk_base::{NoMemory, Sequence, TryCopy};
+
+/// What each place in a log, each arrival and each edition's number is below. Where one would reach it, memory is wanting.
+pub const LIMIT: u64 = 1 << 62;
+
+/// The one log: where it starts, and the events since. What is asked of it at each event is kept beside them, so no call goes over the events.
+#[derive(Debug, Drop)]
+pub struct Log {
+    alloc: Global,
+    start: u64,
+    events: Sequence<Event>,
+    last: u64,
+    next: u64,
+    published: u64,
+    cut: u64,
+}
+
+impl Model for Log {
+    ghost use Rattle.admission_log.specs.Histories.{History};
+
+    ghost Value = { History };
+
+    ghost use Rattle.admission_log.specs.Logs.{history, IsLog};
+
+    ghost view = { history };
+
+    ghost invariant = { IsLog };
+}
+
+impl Log {
+    /// A log without events that starts at a time in 1/128 s. It takes no memory.
+    pub fn new(alloc: Global, start: u64) -> Log
+        requires { start < 2 ^ 40 }
+        ensures empty { result ≡ record { start = start; events = [] } }
+        ensures legal { (settings : Settings) → IsLegal settings result }
+    {
+        Log {
+            alloc,
+            start,
+            events: Sequence::new(alloc),
+            last: start,
+            next: 0,
+            published: 0,
+            cut: 0,
+        }
+    }
+
+    /// The time in 1/128 s at which it starts.
+    pub fn start(&self) -> u64
+        ensures { result ≡ self.now.start }
+    {
+        self.start
+    }
+
+    /// Its events, in order.
+    pub fn events(&self) -> &[Event]
+        ensures { result.now ≡ self.now.events }
+    {
+        self.events.as_slice()
+    }
+
+    /// Its events, in order. It takes no memory.
+    pub fn into_events(self) -> Vec<Event>
+        ensures { result.items ≡ self.events }
+    {
+        let Log { events, .. } = self;
+        events.into_vec()
+    }
+
+    /// Admits a datagram that came from a feed, and answers the place of its event and what became of each of its messages.
+    ///
+    /// It is refused as malformed exactly where it isn't in the grammar, by the first fault in the order of reading. After an error the log is as it was.
+    pub fn admit(
+        &mut self,
+        settings: &Settings,
+        feed: u8,
+        datagram: &[u8],
+    ) -> Result<Receipt, AdmitError>
+        requires { length datagram.now ≤ 65535 }
+        ensures place { IfOk result (λ r. r.at ≡ length self.old.events) }
+        ensures delivered { IfOk result (λ r. (contents : List Content) × IsDatagram datagram.now contents
+            × (self.new ≡ appended self.old (delivery_to settings.now self.old feed contents))
+            × (r.outcomes ≡ outcomes_in (delivery_to settings.now self.old feed contents))) }
+        ensures malformed { IfMalformed result (λ m. DatagramFault datagram.now m.offset m.cause) }
+
+        // The other directions, unless memory is wanting.
+        ensures reads { (contents : List Content) → IsDatagram datagram.now contents → Reads result (λ r.
+            (self.new ≡ appended self.old (delivery_to settings.now self.old feed contents))
+            × (r.outcomes ≡ outcomes_in (delivery_to settings.now self.old feed contents))) }
+        ensures refuses { (m : Malformed) → DatagramFault datagram.now m.offset m.cause → Refuses result (λ x. x ≡ m) }
+
+        ensures err { OnErr result (self.new ≡ self.old) }
+        ensures legal { IsLegal settings.now self.old → IsLegal settings.now self.new }
+    {
+        let event = deliver(self.alloc, settings, self.last, self.next, feed, datagram)?;
+        let at = self.place()?;
+        let admitted = admitted_count(&event);
+        let outcomes = outcomes_of(self.alloc, &event)?;
+        self.events.push(event)?;
+        self.next += admitted;
+        Ok(Receipt { at, outcomes })
+    }
+
+    /// Takes a tick, a time in 1/128 s, and answers the place of its event.
+    ///
+    /// It is refused as old exactly where it isn't above the last one, or the start. After an error the log is as it was.
+    pub fn tick(&mut self, time: u64) -> Result<u64, TickError>
+        requires { time < 2 ^ 40 }
+        ensures place { IfOk result (λ at. at ≡ length self.old.events) }
+        ensures ok { OnOk result (self.new ≡ appended self.old (Event.Tick time)) }
+        ensures later { OnOk result (last_of self.old < time) }
+        ensures old { (last : ℕ) → result ≡ Err (TickError.Old last) → (last ≡ last_of self.old) × (time ≤ last_of self.old) }
+        ensures err { OnErr result (self.new ≡ self.old) }
+        ensures legal { (settings : Settings) → IsLegal settings self.old → IsLegal settings self.new }
+    {
+        if time <= self.last {
+            return Err(TickError::Old { last: self.last });
+        }
+        let at = self.place()?;
+        self.events.push(Event::Tick(time))?;
+        self.last = time;
+        Ok(at)
+    }
+
+    /// Takes an edition that was published, by its number and its cut, and answers the place of its event. After an error the log is as it was.
+    pub fn publish(&mut self, number: u64, cut: u64) -> Result<u64, NoMemory>
+        requires number { number ≡ published_of self.old + 1 }
+        requires no_less { cut_of self.old ≤ cut }
+        requires no_more { cut ≤ length self.old.events }
+        ensures place { IfOk result (λ at. at ≡ length self.old.events) }
+        ensures ok { OnOk result (self.new ≡ appended self.old (Event.Publish number cut)) }
+        ensures err { OnErr result (self.new ≡ self.old) }
+        ensures legal { (settings : Settings) → IsLegal settings self.old → IsLegal settings self.new }
+    {
+        if number >= LIMIT {
+            return Err(NoMemory);
+        }
+        let at = self.place()?;
+        self.events.push(Event::Publish { number, cut })?;
+        self.published = number;
+        self.cut = cut;
+        Ok(at)
+    }
+
+    // The place of the next event.
+    fn place(&self) -> Result<u64, NoMemory>
+        ensures { IfOk result (λ at. at ≡ length self.now.events) }
+    {
+        let at = self.events.len() as u64;
+        if at >= LIMIT {
+            return Err(NoMemory);
+        }
+        Ok(at)
+    }
+}
+
+// How many plots an event admits.
+fn admitted_count(event: &Event) -> u64
+    ensures { result ≡ length (admitted_in event.now) }
+{
+    match event {
+        Event::Deliver { admitted, .. } => admitted.len() as u64,
+        _ => 0,
+    }
+}
+
+// What an event tells of each message.
+fn outcomes_of(alloc: Global, event: &Event) -> Result<Sequence<Outcome>, NoMemory>
+    ensures { IfOk result (λ told. told ≡ outcomes_in event.now) }
+{
+    match event {
+        Event::Deliver { outcomes, .. } => outcomes.copy(alloc),
+        _ => Ok(Sequence::new(alloc)),
+    }
+}

@@ -1,0 +1,19 @@
+use Rattle.std.proofs.Common.{rules, ◌≡◌, ℤ, length, take, set, get_or, w64, arith}
+use Rattle.std.specs.Prelude.{FitsSigned}
+use Rattle.std.proofs.lemmas.Int.{to_z-of_z}
+use Rattle.toml.specs.View.{view, table_view}
+use Rattle.settings_text.specs.Keys.{number_at, fault_at, Gives, faults}
+use Rattle.settings_text.specs.Answers.{IsFirst}
+use Rattle.settings_text.proofs.Reading.{gives_more, first_fault}
+use Rattle.settings_text.proofs.tables.numbers.Goals as goal
+
+pub returns-in_err-numbers-clause-err : goal.returns-in_err-numbers-clause-err
+returns-in_err-numbers-clause-err g c =
+    let first = first_fault c.args.radar (table_view c.args.table.now) c.args.rules.now c.loop-place.numbers c.loop-place.place _ _ (omega (arith, c.loop-place-test.true, c.told-rules)) c.loop-place.invariant.given c.in_err-numbers.ensures.err in
+    search rules
+
+pub loop-place-preserved : goal.loop-place-preserved
+loop-place-preserved g c =
+    let more = gives_more (table_view c.args.table.now) c.args.rules.now c.loop-place.numbers c.loop-place.place _ _ (omega (arith, c.loop-place-test.true, c.told-rules)) (omega (arith, c.loop-place-test.true, c.loop-place.invariant.long)) c.loop-place.invariant.given c.in_ok-numbers.ensures.ok in
+    let fits : FitsSigned w64 c.in_ok-numbers.field-0 = search rules in
+    rw (to_z-of_z w64 c.in_ok-numbers.field-0 fits) (record { long = search rules; given = more })

@@ -1,0 +1,90 @@
+-- What a document says of the system and of the radars, and all that is wrong with its numbers.
+use Rattle.std.specs.Prelude.{◌≡◌, ℕ, ℤ, Bool, true, ◌&&◌, ◌||◌, if◌then◌else◌, nat_lt, List, [], ◌∷◌, ◌++◌, length, take, Option, Some, None, option_map, codes}
+use Rattle.std.specs.List.{AllZip, enumerate_from, flat_map, list_all}
+use Rattle.std.specs.Str.{bytes_eq}
+use Rattle.toml.specs.Data.{Items, no_items, item, Members, get_member, as_array, as_table}
+use Rattle.plot_geometry.specs.declared.radars.RadarSettings.{RadarSettings}
+use Rattle.settings_text.specs.declared.keys.TheConstants.{SYSTEM_KEYS, RADAR_KEYS}
+use Rattle.settings_text.specs.declared.keys.KeyRule.{KeyRule}
+use Rattle.settings_text.specs.declared.faults.SettingsFault.{SettingsFault}
+use Rattle.settings_text.specs.declared.faults.SettingsFault.TheVariants.{Missing, Kind, Range}
+use Rattle.settings_text.specs.Keys.{path, Gives, faults, has_only, names}
+use Rattle.settings_text.specs.Numbers.{radar_numbers}
+
+-- what stands at `system`: nothing, something that is no table, or a table
+abbrev pub system_of : Members → Option (Option Members)
+system_of document = option_map as_table (get_member (codes "system") document)
+
+-- what stands at `radar`: nothing, something that is no array, or an array
+abbrev pub radars_of : Members → Option (Option Items)
+radars_of document = option_map as_array (get_member (codes "radar") document)
+
+-- the entries of an array, each as a table, if it is one
+abbrev pub entries : Items → List (Option Members)
+entries no_items = []
+entries (item first rest) = as_table first ∷ entries rest
+
+-- what is wrong with the numbers of the system: keys 1 to 7
+abbrev pub system_faults : Option (Option Members) → List SettingsFault
+system_faults None = Missing (path None 1) ∷ []
+system_faults (Some None) = Kind (path None 1) ∷ []
+system_faults (Some (Some table)) = faults None table SYSTEM_KEYS
+
+-- what is wrong with the numbers of one radar: keys 8 to 19
+abbrev pub entry_faults : ℕ → Option Members → List SettingsFault
+entry_faults radar None = Kind (path (Some radar) 8) ∷ []
+entry_faults radar (Some table) = faults (Some radar) table RADAR_KEYS
+
+-- what is wrong with the entries: that there is none, or what is wrong with the first 32, and that there are more
+abbrev pub entries_faults : List (Option Members) → List SettingsFault
+entries_faults [] = Missing (path (Some 0) 8) ∷ []
+entries_faults (first ∷ others) =
+    let all = first ∷ others in
+    flat_map (λ e. entry_faults e.0 e.1) (enumerate_from 0 (take 32 all)) ++ (if nat_lt 32 (length all) then Range (path (Some 32) 8) ∷ [] else [])
+
+abbrev pub radars_faults : Option (Option Items) → List SettingsFault
+radars_faults None = Missing (path (Some 0) 8) ∷ []
+radars_faults (Some None) = Kind (path (Some 0) 8) ∷ []
+radars_faults (Some (Some items)) = entries_faults (entries items)
+
+-- all that is wrong with the numbers of a document, in the order of the keys
+abbrev pub number_faults : Members → List SettingsFault
+number_faults document = system_faults (system_of document) ++ radars_faults (radars_of document)
+
+-- the document gives the system these numbers
+pub record SystemGives (document : Members) (numbers : List ℤ) : Type 0 where
+  pub table : Members
+  pub stands : system_of document ≡ Some (Some table)
+  pub gives : Gives table SYSTEM_KEYS numbers
+
+-- an entry gives a radar its numbers
+abbrev pub IsRadar : Option Members → RadarSettings → Type 0
+IsRadar None radar = ⊥
+IsRadar (Some table) radar = Gives table RADAR_KEYS (radar_numbers radar)
+
+-- the document has these radars
+pub record AreRadars (document : Members) (radars : List RadarSettings) : Type 0 where
+  pub items : Items
+  pub stand : radars_of document ≡ Some (Some items)
+  pub each : AllZip IsRadar (entries items) radars
+
+-- what is a table has only keys with rules
+abbrev pub knows : List KeyRule → Option Members → Bool
+knows rules None = true
+knows rules (Some table) = has_only rules table
+
+abbrev pub system_known : Option (Option Members) → Bool
+system_known None = true
+system_known (Some system) = knows SYSTEM_KEYS system
+
+abbrev pub radars_known : Option (Option Items) → Bool
+radars_known (Some (Some items)) = list_all (knows RADAR_KEYS) (entries items)
+radars_known other = true
+
+-- the name of one of the two keys of a document
+abbrev pub is_part : List ℕ → Bool
+is_part name = bytes_eq name (codes "system") || bytes_eq name (codes "radar")
+
+-- no key of the document is unknown
+abbrev pub is_known : Members → Bool
+is_known document = (list_all is_part (names document) && system_known (system_of document)) && radars_known (radars_of document)

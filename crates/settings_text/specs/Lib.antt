@@ -1,0 +1,5 @@
+pub mod Answers
+pub mod Documents
+pub mod Keys
+pub mod Names
+pub mod Numbers

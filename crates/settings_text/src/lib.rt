@@ -1,0 +1,18 @@
+//! The settings as a site writes them: a TOML document, read to its values or to its first fault.
+#![tactic(auto)]
+
+// mod document;
+mod faults;
+mod keys;
+// mod laws;
+mod narrow;
+mod radars;
+mod system;
+mod tables;
+// #[cfg(test)]
+// mod tests;
+
+// pub use document::{MAX_OCTETS, read_settings};
+pub use faults::{KeyPath, SettingsError, SettingsFault};
+pub use keys::{KeyRule, Name, RADAR_KEYS, SYSTEM_KEYS};
+// pub use laws::one_answer;
