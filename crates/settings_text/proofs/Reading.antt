@@ -1,6 +1,5 @@
 -- A table's keys, read one by one.
-use Rattle.std.proofs.Common.{◌≡◌, ◌∙◌, ℕ, suc, ◌+◌, ◌<◌, ◌≤◌, ℤ, List, [], ◌∷◌, ◌++◌, length, get_or, set, take, drop, Option, Some, None, Ok, refl, ap}
-use Rattle.std.specs.List.{AllZip}
+use Rattle.std.proofs.Common.{◌≡◌, ◌∙◌, ℕ, suc, ◌+◌, ◌<◌, ℤ, List, [], ◌∷◌, length, get_or, set, take, drop, Option, Some, Ok, refl, ap}
 use Rattle.std.proofs.lemmas.List.{take_more, take_more_set}
 use Rattle.std.proofs.Math.Seq.{split_at}
 use Rattle.std.proofs.lemmas.Slice.Zip.{all_zipped_more}
@@ -28,6 +27,7 @@ gives_more table rules numbers i d number h k given found =
 pub first_fault : (radar : Option ℕ) (table : Members) (rules : List KeyRule) (numbers : List ℤ) (i : ℕ) (d : KeyRule) (fault : SettingsFault) → i < length rules
     → Gives table (take i rules) (take i numbers) → fault_at radar table (get_or rules i d) ≡ Some fault → IsFirst fault (faults radar table rules)
 first_fault radar table rules numbers i d fault h given found =
-    let rest = drop (suc i) rules in
-    (faults radar table rest,
-      ap (faults radar table) (split_at rules i d h) ∙ filter_map-append (fault_at radar table) (take i rules) (get_or rules i d ∷ rest) ∙ rw (no_faults radar table (take i rules) (take i numbers) given, found))
+    let rest = drop (suc i) rules in (
+      faults radar table rest,
+      ap (faults radar table) (split_at rules i d h) ∙ filter_map-append (fault_at radar table) (take i rules) (get_or rules i d ∷ rest) ∙ rw (no_faults radar table (take i rules) (take i numbers) given, found),
+    )

@@ -1,5 +1,5 @@
 -- What the octets of the settings are read to: settings, or the first fault.
-use Rattle.std.specs.Prelude.{◌≡◌, ℕ, ◌<◌, ◌≤◌, true, false, List, [], ◌∷◌, length, take, slice_get, Option, Some, Result, Ok, Err}
+use Rattle.std.specs.Prelude.{◌≡◌, ⊤, ℕ, ◌<◌, ◌≤◌, true, false, List, [], ◌∷◌, length, take, slice_get, Some, Result, Ok, Err}
 use Rattle.std.specs.Str.{IsUtf8}
 use Rattle.toml.specs.Data.{Members}
 use Rattle.toml.specs.Parse.{parse_document}
@@ -7,7 +7,7 @@ use Rattle.plot_geometry.specs.declared.radars.RadarSettings.{RadarSettings}
 use Rattle.admission_log.specs.declared.settings.Settings.{Settings}
 use Rattle.admission_log.specs.Sources.{HasSource, HaveOwnSources}
 use Rattle.settings_text.specs.declared.faults.SettingsFault.{SettingsFault}
-use Rattle.settings_text.specs.declared.faults.SettingsFault.TheVariants.{Syntax, Missing, Kind, Range, Unknown, Duplicate}
+use Rattle.settings_text.specs.declared.faults.SettingsFault.TheVariants.{Syntax, Unknown, Duplicate}
 use Rattle.settings_text.specs.declared.faults.SettingsError.{SettingsError}
 use Rattle.settings_text.specs.declared.faults.SettingsError.TheVariants.{Fault, NoMemory}
 use Rattle.settings_text.specs.Numbers.{system_numbers}
@@ -44,22 +44,23 @@ pub record HasDuplicate (document : Members) (radar first : ℕ) : Type 0 where
 abbrev pub IsFirst : SettingsFault → List SettingsFault → Type 0
 IsFirst fault faults = (rest : List SettingsFault) × (faults ≡ fault ∷ rest)
 
--- the first fault of a document: its numbers before its unknown keys, and these before its duplicates
-abbrev pub IsFaultOf : Members → SettingsFault → Type 0
-IsFaultOf document Syntax = ⊥
-IsFaultOf document (Missing path) = IsFirst (Missing path) (number_faults document)
-IsFaultOf document (Kind path) = IsFirst (Kind path) (number_faults document)
-IsFaultOf document (Range path) = IsFirst (Range path) (number_faults document)
-IsFaultOf document Unknown = (number_faults document ≡ []) × (is_known document ≡ false)
-IsFaultOf document (Duplicate radar first) = (number_faults document ≡ []) × (is_known document ≡ true) × HasDuplicate document radar first
+-- The first fault of a document: something wrong with its numbers, else an unknown key, else a radar that repeats another.
+pub data IsFaultOf (document : Members) (fault : SettingsFault) : Type 0 where
+  wrong_number : IsFirst fault (number_faults document) → IsFaultOf document fault
+  unknown_key : number_faults document ≡ [] → is_known document ≡ false → fault ≡ Unknown → IsFaultOf document fault
+  duplicate : number_faults document ≡ [] → is_known document ≡ true → (radar first : ℕ) → HasDuplicate document radar first → fault ≡ Duplicate radar first → IsFaultOf document fault
 
--- octets have these settings or this first fault
+-- the first fault of some octets
+pub data IsFault (octets : List ℕ) (fault : SettingsFault) : Type 0 where
+  no_document : ((document : Members) → ¬ IsDocument octets document) → fault ≡ Syntax → IsFault octets fault
+  in_document : (document : Members) → IsDocument octets document → IsFaultOf document fault → IsFault octets fault
+
+-- the octets give these settings, or have this first fault
 abbrev pub IsAnswer : List ℕ → Result Settings SettingsFault → Type 0
 IsAnswer octets (Ok settings) = (document : Members) × IsDocument octets document × IsSettings document settings
-IsAnswer octets (Err Syntax) = (document : Members) → ¬ IsDocument octets document
-IsAnswer octets (Err fault) = (document : Members) × IsDocument octets document × IsFaultOf document fault
+IsAnswer octets (Err fault) = IsFault octets fault
 
--- the same of a refusal, of which want of memory says nothing
-abbrev pub IsRefusal : List ℕ → SettingsError → Type 0
-IsRefusal octets (Fault fault) = IsAnswer octets (Err fault)
-IsRefusal octets NoMemory = Unit
+-- of a refusal by a fault; want of memory says nothing
+abbrev pub OnFault : SettingsError → (SettingsFault → Type 0) → Type 0
+OnFault (Fault fault) P = P fault
+OnFault NoMemory P = ⊤

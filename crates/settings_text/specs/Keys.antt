@@ -4,7 +4,7 @@ use Rattle.std.specs.List.{AllZip, filter_map, list_all, list_any}
 use Rattle.std.specs.Option.{ok_or}
 use Rattle.std.specs.Result.{result_err}
 use Rattle.std.specs.Str.{bytes_eq}
-use Rattle.toml.specs.Data.{Data, Members, no_members, member, get_member, as_integer}
+use Rattle.toml.specs.Data.{Members, no_members, member, get_member, as_integer}
 use Rattle.settings_text.specs.declared.keys.KeyRule.{KeyRule}
 use Rattle.settings_text.specs.declared.faults.KeyPath.{KeyPath}
 use Rattle.settings_text.specs.declared.faults.SettingsFault.{SettingsFault}

@@ -3,3 +3,4 @@ pub mod Documents
 pub mod Keys
 pub mod Names
 pub mod Numbers
+pub mod Texts

@@ -1,4 +1,4 @@
-use trk_base::NoMemory;
+use std::alloc::{AllocError, AllocFailed};
 
 /// Where in the settings something is wrong.
 #[derive(Clone, Copy, Debug, PartialEq, Eq)]
@@ -51,13 +51,24 @@ impl From<SettingsFault> for SettingsError {
     }
 }
 
-impl From<NoMemory> for SettingsError {
+impl From<AllocError> for SettingsError {
     ghost use Rattle.std.specs.Prelude.{◌≡◌};
-    ghost use Rattle.settings_text.specs.declared.faults.SettingsError.TheVariants as error;
+    ghost use Rattle.settings_text.specs.declared.faults.SettingsError.TheVariants.{NoMemory};
 
-    ghost from_gives = { λ _ given. given ≡ error.NoMemory };
+    ghost from_gives = { λ _ error. error ≡ NoMemory };
 
-    fn from(_: NoMemory) -> SettingsError {
+    fn from(_: AllocError) -> SettingsError {
+        SettingsError::NoMemory
+    }
+}
+
+impl<T: Drop> From<AllocFailed<T>> for SettingsError {
+    ghost use Rattle.std.specs.Prelude.{◌≡◌};
+    ghost use Rattle.settings_text.specs.declared.faults.SettingsError.TheVariants.{NoMemory};
+
+    ghost from_gives = { λ _ error. error ≡ NoMemory };
+
+    fn from(_: AllocFailed<T>) -> SettingsError {
         SettingsError::NoMemory
     }
 }

@@ -1,7 +1,7 @@
 //! The settings as a site writes them: a TOML document, read to its values or to its first fault.
 #![tactic(auto)]
 
-// mod document;
+mod document;
 mod faults;
 mod keys;
 // mod laws;
@@ -9,10 +9,11 @@ mod narrow;
 mod radars;
 mod system;
 mod tables;
-// #[cfg(test)]
-// mod tests;
+#[cfg(test)]
+mod tests;
+mod texts;
 
-// pub use document::{MAX_OCTETS, read_settings};
+pub use document::{MAX_OCTETS, read_settings};
 pub use faults::{KeyPath, SettingsError, SettingsFault};
 pub use keys::{KeyRule, Name, RADAR_KEYS, SYSTEM_KEYS};
 // pub use laws::one_answer;

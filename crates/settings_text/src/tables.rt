@@ -1,14 +1,14 @@
 //! Reading the keys of one table.
 ghost use Rattle.std.specs.Prelude.{◌≡◌, IfOk, IfErr, option_map};
-ghost use Rattle.toml.specs.Data.{as_integer, as_array, as_table, get_member};
-ghost use Rattle.toml.specs.View.{view, array_view, table_view};
+ghost use Rattle.toml.specs.Data.{as_integer, as_table, get_member};
+ghost use Rattle.toml.specs.View.{view, table_view};
 ghost use Rattle.settings_text.specs.Keys.{number_at, fault_at, Gives, faults, is_key, has_only};
+ghost use Rattle.settings_text.specs.Documents.{as_entries, tables_of};
 ghost use Rattle.settings_text.specs.Answers.{IsFirst};
 
 use crate::faults::{KeyPath, SettingsFault};
 use crate::keys::KeyRule;
 use toml::{Table, Value};
-use toml::value::Array;
 
 // What stands at a key of a table.
 fn value_at<'a>(table: &'a Table, name: &str) -> Option<&'a Value>
@@ -27,12 +27,22 @@ pub fn table_at<'a>(table: &'a Table, name: &str) -> Option<Option<&'a Table>>
     }
 }
 
-/// What stands at a key of a table: nothing, something that is no array, or an array.
-pub fn array_at<'a>(table: &'a Table, name: &str) -> Option<Option<&'a Array>>
-    ensures { option_map (option_map (λ items. array_view items.now)) result ≡ option_map as_array (get_member name.now (table_view table.now)) }
+/// What stands at a key of a table: nothing, something that is no array, or the values of an array.
+pub fn values_at<'a>(table: &'a Table, name: &str) -> Option<Option<&'a [Value]>>
+    ensures { option_map (option_map (λ values. tables_of values.now)) result ≡ option_map as_entries (get_member name.now (table_view table.now)) }
 {
     match value_at(table, name) {
-        Some(value) => Some(value.as_array()),
+        Some(value) => Some(values_of(value)),
+        None => None,
+    }
+}
+
+// The values of what is an array.
+fn values_of(value: &Value) -> Option<&[Value]>
+    ensures { option_map (λ values. tables_of values.now) result ≡ as_entries (view value.now) }
+{
+    match value.as_array() {
+        Some(values) => Some(values),
         None => None,
     }
 }

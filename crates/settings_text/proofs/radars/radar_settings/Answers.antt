@@ -1,12 +1,8 @@
-use Rattle.std.proofs.Common.{◌≡◌, ◌∙◌, ℕ, ◌≤◌, ℤ, pos, negsuc, neg_ℤ, ◌≤ℤ◌, List, [], ◌∷◌, get_or, sym, subst, None, w16, w32, to_z, of_z, rules, arith, lit<}
+use Rattle.std.proofs.Common.{◌≡◌, ◌∙◌, ◌≤◌, ℤ, pos, negsuc, ◌≤ℤ◌, [], ◌∷◌, sym, subst, w16, w32, to_z, of_z, arith, lit<}
 use Rattle.std.specs.Prelude.{FitsSigned, unsigned_abs}
 use Rattle.std.proofs.lemmas.Int.{to_z-of_z, ints}
-use Rattle.settings_text.specs.declared.keys.Name.TheVariants.{Sac}
-use Rattle.settings_text.specs.declared.keys.KeyRule.{KeyRule}
 use Rattle.settings_text.specs.declared.keys.TheConstants.{RADAR_KEYS}
-use Rattle.settings_text.specs.Keys.{IsBetween, AreWithin}
-use Rattle.settings_text.specs.Numbers.{radar_numbers}
-use Rattle.settings_text.proofs.Ranges.{range_at, by_place}
+use Rattle.settings_text.proofs.Ranges.{blank, range_at, by_place}
 use Rattle.settings_text.proofs.radars.radar_settings.Goals as goal
 
 -- a number that fits stays itself when it is put into a field
@@ -15,9 +11,6 @@ kept32 result number fits same = to_z-of_z w32 result fits ∙ same
 
 kept16 : (result number : ℤ) → FitsSigned w16 result → result ≡ number → to_z w16 (of_z w16 result) ≡ number
 kept16 result number fits same = to_z-of_z w16 result fits ∙ same
-
-blank : KeyRule
-blank = record { number = 0; name = Sac; least = pos 0; most = pos 0; default = None }
 
 pub to_u8-requires : goal.to_u8-requires
 to_u8-requires c =
@@ -105,16 +98,16 @@ invariant_of-result c =
 pub returns : goal.returns
 returns c =
     (λ i. c.to_u8.ensures i
-      ∷ c.to_u8-2.ensures i
-      ∷ (kept32 c.to_i32.result _ (record { sfits = c.to_i32.type_inv }) c.to_i32.ensures) i
-      ∷ (kept32 c.to_i32-2.result _ (record { sfits = c.to_i32-2.type_inv }) c.to_i32-2.ensures) i
-      ∷ (kept16 c.to_i16.result _ (record { sfits = c.to_i16.type_inv }) c.to_i16.ensures) i
-      ∷ c.to_u16.ensures i
-      ∷ (kept16 c.to_i16-2.result _ (record { sfits = c.to_i16-2.type_inv }) c.to_i16-2.ensures) i
-      ∷ (kept16 c.to_i16-3.result _ (record { sfits = c.to_i16-3.type_inv }) c.to_i16-3.ensures) i
-      ∷ (kept16 c.to_i16-4.result _ (record { sfits = c.to_i16-4.type_inv }) c.to_i16-4.ensures) i
-      ∷ (kept16 c.to_i16-5.result _ (record { sfits = c.to_i16-5.type_inv }) c.to_i16-5.ensures) i
-      ∷ c.to_u16-2.ensures i
-      ∷ c.to_u16-3.ensures i
-      ∷ [])
+    ∷ c.to_u8-2.ensures i
+    ∷ (kept32 c.to_i32.result _ (record { sfits = c.to_i32.type_inv }) c.to_i32.ensures) i
+    ∷ (kept32 c.to_i32-2.result _ (record { sfits = c.to_i32-2.type_inv }) c.to_i32-2.ensures) i
+    ∷ (kept16 c.to_i16.result _ (record { sfits = c.to_i16.type_inv }) c.to_i16.ensures) i
+    ∷ c.to_u16.ensures i
+    ∷ (kept16 c.to_i16-2.result _ (record { sfits = c.to_i16-2.type_inv }) c.to_i16-2.ensures) i
+    ∷ (kept16 c.to_i16-3.result _ (record { sfits = c.to_i16-3.type_inv }) c.to_i16-3.ensures) i
+    ∷ (kept16 c.to_i16-4.result _ (record { sfits = c.to_i16-4.type_inv }) c.to_i16-4.ensures) i
+    ∷ (kept16 c.to_i16-5.result _ (record { sfits = c.to_i16-5.type_inv }) c.to_i16-5.ensures) i
+    ∷ c.to_u16-2.ensures i
+    ∷ c.to_u16-3.ensures i
+    ∷ [])
     ∙ sym (by_place 12 c.args.numbers.now c.told-numbers)

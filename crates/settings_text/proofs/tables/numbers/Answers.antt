@@ -1,9 +1,7 @@
-use Rattle.std.proofs.Common.{rules, ◌≡◌, ℤ, length, take, set, get_or, w64, arith}
+use Rattle.std.proofs.Common.{rules, w64, arith}
 use Rattle.std.specs.Prelude.{FitsSigned}
 use Rattle.std.proofs.lemmas.Int.{to_z-of_z}
-use Rattle.toml.specs.View.{view, table_view}
-use Rattle.settings_text.specs.Keys.{number_at, fault_at, Gives, faults}
-use Rattle.settings_text.specs.Answers.{IsFirst}
+use Rattle.toml.specs.View.{table_view}
 use Rattle.settings_text.proofs.Reading.{gives_more, first_fault}
 use Rattle.settings_text.proofs.tables.numbers.Goals as goal
 
