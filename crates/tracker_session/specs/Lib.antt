@@ -11,3 +11,4 @@ pub mod Steps
 pub mod Taking
 pub mod Thin
 pub mod Words
+pub mod Screen

@@ -5,6 +5,7 @@ mod batch;
 mod laws;
 mod picture;
 mod report;
+mod screen;
 mod status;
 mod streams;
 mod words;
