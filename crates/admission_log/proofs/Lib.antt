@@ -5,3 +5,4 @@ pub mod Contents
 pub mod Reading
 pub mod Sound
 pub mod Rising
+pub mod Arrivals

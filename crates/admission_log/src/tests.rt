@@ -249,7 +249,7 @@ fn counts_on_over_midnight_and_frees_of_bias(rt: HostRuntime) -> Result<(), Fail
     let exact = settings_with(alloc, 0)?;
     let event = deliver(alloc, &exact, 11_059_100, 0, 0, &report(1, 5))?;
     assert_eq!(rt; time_of(&event), Some(11_059_205));
-    assert_eq!(rt; time_of(&event).map(slot_of), Some(172_800));
+    assert_eq!(rt; slot_of(11_059_205), 172_800);
     let event = deliver(alloc, &late, START, 0, 0, &report(1, 4_608_010))?;
     assert_eq!(rt; time_of(&event), Some(4_608_000));
     let event = deliver(alloc, &early, START, 0, 0, &report(1, 4_608_010))?;
