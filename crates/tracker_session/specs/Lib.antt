@@ -12,3 +12,4 @@ pub mod Taking
 pub mod Thin
 pub mod Words
 pub mod Screen
+pub mod Closing

@@ -4,6 +4,7 @@
 mod batch;
 mod laws;
 mod picture;
+mod plots;
 mod report;
 mod screen;
 mod status;
