@@ -11,3 +11,4 @@ pub mod Stepping
 pub mod TakingReports
 pub mod Told
 pub mod Walks
+pub mod Closed

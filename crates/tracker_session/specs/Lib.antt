@@ -11,3 +11,5 @@ pub mod Steps
 pub mod Taking
 pub mod Thin
 pub mod Words
+pub mod Screen
+pub mod Closing

@@ -4,7 +4,9 @@
 mod batch;
 mod laws;
 mod picture;
+mod plots;
 mod report;
+mod screen;
 mod status;
 mod streams;
 mod words;
