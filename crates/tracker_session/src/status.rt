@@ -34,12 +34,6 @@ pub enum Status {
     Write(Spot),
     /// Memory is wanting.
     Memory,
-<<<<<<< HEAD
-    /// The input has a datagram that the thin replay doesn't take, before any fault: its number among
-    /// the items, from 0.
-    NotBuilt { item: u64 },
-=======
->>>>>>> 7ca9984c051d3d92f7ff58717f19afca23996029
 }
 
 impl Status {
