@@ -43,6 +43,10 @@ status_line (Read spot) = spot_line (codes "read") spot
 status_line (Write spot) = spot_line (codes "write") spot
 status_line Memory = codes "no memory\n"
 
+-- the counts of a replay that has taken no item
+abbrev pub no_counts : Counts
+no_counts = record { editions = 0; admitted = 0; unknown = 0; early = 0; ahead = 0; not_plots = 0; malformed = 0; other = 0; old = 0 }
+
 -- what came of the plots of a replay
 abbrev pub plots_text : Counts → List ℕ
 plots_text c =

@@ -5,7 +5,8 @@ mod batch;
 mod laws;
 mod picture;
 mod plots;
-mod report;
+mod reading;
+mod replay;
 mod screen;
 mod status;
 mod streams;
@@ -14,6 +15,7 @@ mod words;
 pub use batch::run_batch;
 pub use laws::{one_reading, one_replay};
 pub use status::{Spot, Status};
+pub use words::{Command, WordsError, parse_words};
 
 #[cfg(test)]
 mod tests;

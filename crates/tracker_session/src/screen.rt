@@ -1,6 +1,6 @@
 // What the screen says at the end of a command.
 ghost use Rattle.std.specs.Prelude.{◌≡◌, IfOk, string_bytes};
-ghost use Rattle.tracker_session.specs.Screen.{counts_line, plots_text, others_text, key_line, settings_line, spot_line, status_line};
+ghost use Rattle.tracker_session.specs.Screen.{counts_line, no_counts, plots_text, others_text, key_line, settings_line, spot_line, status_line};
 
 use crate::status::{Spot, Status};
 use settings_text::{KeyPath, SettingsFault};
@@ -27,6 +27,25 @@ pub struct Counts {
     pub other: u64,
     /// The ticks that weren't above the last one.
     pub old: u64,
+}
+
+impl Counts {
+    /// Those of a replay that has taken no item.
+    pub fn none() -> Counts
+        ensures { result ≡ no_counts }
+    {
+        Counts {
+            editions: 0,
+            admitted: 0,
+            unknown: 0,
+            early: 0,
+            ahead: 0,
+            not_plots: 0,
+            malformed: 0,
+            other: 0,
+            old: 0,
+        }
+    }
 }
 
 /// The line of a replay that was done.
