@@ -1,14 +1,9 @@
-pub mod Builds
-pub mod Forms
+pub mod Closed
 pub mod Inputs
-pub mod Outcomes
 pub mod Outputs
 pub mod Pictures
 pub mod Runs
 pub mod Settings
-pub mod SomeReplay
 pub mod Stepping
-pub mod TakingReports
-pub mod Told
-pub mod Walks
-pub mod Closed
+pub mod Takings
+pub mod Tallying

@@ -15,7 +15,7 @@ use Rattle.tracker_session.specs.Inputs.{IsRead}
 use Rattle.tracker_session.specs.Picture.{IsEdition}
 
 -- An item and what becomes of it: a datagram of these blocks is admitted, and a malformed one passed over; a tick is taken, and an old one passed over.
-data pub Taken : Type 0 where
+pub data Taken : Type 0 where
   admitted : ℕ → List ℕ → List Content → Taken
   malformed : ℕ → List ℕ → Taken
   ticked : ℕ → Taken
@@ -98,7 +98,7 @@ is_old _ = false
 
 -- the blocks that an event passed over
 abbrev pub others_in : Event → ℕ
-others_in (Deliver feed admitted told other) = other
+others_in (Deliver feed plots told other) = other
 others_in _ = 0
 
 -- what was told of all messages
