@@ -1,5 +1,5 @@
 // The items of a recording, taken one after the other.
-ghost use Rattle.std.specs.Prelude.{◌≡◌, ◌+◌, ◌++◌, ◌∷◌, [], ◌<◌, ◌≤◌, ◌^◌, List, length, true, false, Ok, IfErr, IfOk, OnOk, OnErr};
+ghost use Rattle.std.specs.Prelude.{◌≡◌, ◌+◌, ◌++◌, ◌∷◌, [], ◌<◌, ◌≤◌, ◌^◌, List, count_by, length, true, false, Ok, IfErr, IfOk, OnOk, OnErr};
 ghost use Rattle.std.specs.List.{AllByRecursion};
 ghost use Rattle.io_traits.specs.Host.{IsBoundFor, WritesOnly};
 ghost use Rattle.io_traits.specs.declared.host.Place.{Place};
@@ -66,21 +66,51 @@ fn is_not_plot(outcome: &Outcome) -> bool
 }
 
 // A count, and what is to be added to it. It stands still at its type's end.
-fn more(count: u64, added: usize) -> u64
+fn more(count: u64, added: u64) -> u64
     ensures { result ≡ counted (count + added) }
 {
-    count.saturating_add(added as u64)
+    count.saturating_add(added)
+}
+
+fn count_admitted(outcomes: &[Outcome]) -> u64
+    ensures { result ≡ count_by is_admitted outcomes.now }
+{
+    outcomes.iter().filter(|outcome| is_admitted(outcome)).count() as u64
+}
+
+fn count_unknown(outcomes: &[Outcome]) -> u64
+    ensures { result ≡ count_by is_unknown outcomes.now }
+{
+    outcomes.iter().filter(|outcome| is_unknown(outcome)).count() as u64
+}
+
+fn count_early(outcomes: &[Outcome]) -> u64
+    ensures { result ≡ count_by is_early outcomes.now }
+{
+    outcomes.iter().filter(|outcome| is_early(outcome)).count() as u64
+}
+
+fn count_ahead(outcomes: &[Outcome]) -> u64
+    ensures { result ≡ count_by is_ahead outcomes.now }
+{
+    outcomes.iter().filter(|outcome| is_ahead(outcome)).count() as u64
+}
+
+fn count_not_plots(outcomes: &[Outcome]) -> u64
+    ensures { result ≡ count_by is_not_plot outcomes.now }
+{
+    outcomes.iter().filter(|outcome| is_not_plot(outcome)).count() as u64
 }
 
 // Counts what was told of the messages of a datagram.
 fn count_outcomes(counts: &mut Counts, outcomes: &[Outcome])
-    ensures { counts.new ≡ with_outcomes outcomes.now counts.old }
+    ensures { counts.exit.now ≡ with_outcomes outcomes.now counts.entry.now }
 {
-    counts.admitted = more(counts.admitted, outcomes.iter().filter(|o| is_admitted(o)).count());
-    counts.unknown = more(counts.unknown, outcomes.iter().filter(|o| is_unknown(o)).count());
-    counts.early = more(counts.early, outcomes.iter().filter(|o| is_early(o)).count());
-    counts.ahead = more(counts.ahead, outcomes.iter().filter(|o| is_ahead(o)).count());
-    counts.not_plots = more(counts.not_plots, outcomes.iter().filter(|o| is_not_plot(o)).count());
+    counts.admitted = more(counts.admitted, count_admitted(outcomes));
+    counts.unknown = more(counts.unknown, count_unknown(outcomes));
+    counts.early = more(counts.early, count_early(outcomes));
+    counts.ahead = more(counts.ahead, count_ahead(outcomes));
+    counts.not_plots = more(counts.not_plots, count_not_plots(outcomes));
 }
 
 // How many blocks the last event of a log passed over.
@@ -95,20 +125,20 @@ fn others_in_last(log: &Log) -> u64
 
 impl Run {
     // Takes a datagram of a feed.
-    fn admit(&mut self, settings: &Settings, feed: u8, datagram: &[u8]) -> Result<(), Status>
-        requires { length datagram.now ≤ 65535 }
-        ensures taken { OnOk result (TakesSilently settings.now (datagram feed datagram.now) self.old self.new) }
+    fn admit(&mut self, settings: &Settings, feed: u8, octets: &[u8]) -> Result<(), Status>
+        requires { length octets.now ≤ 65535 }
+        ensures taken { OnOk result (TakesSilently settings.now (datagram feed octets.now) self.old self.new) }
         ensures memory { IfErr result (λ s. s ≡ Status.Memory) }
     {
-        match self.log.admit(settings, feed, datagram) {
+        match self.log.admit(settings, feed, octets) {
             Ok(receipt) => {
                 count_outcomes(&mut self.counts, receipt.outcomes.as_slice());
                 let other = others_in_last(&self.log);
-                self.counts.other = self.counts.other.saturating_add(other);
+                self.counts.other = more(self.counts.other, other);
                 Ok(())
             }
             Err(AdmitError::Malformed(_)) => {
-                self.counts.malformed = self.counts.malformed.saturating_add(1);
+                self.counts.malformed = more(self.counts.malformed, 1);
                 Ok(())
             }
             Err(AdmitError::NoMemory) => Err(Status::Memory),
@@ -124,11 +154,11 @@ impl Run {
     {
         match self.log.tick(time) {
             Ok(_) => {
-                self.counts.editions = self.counts.editions.saturating_add(1);
+                self.counts.editions = more(self.counts.editions, 1);
                 Ok(true)
             }
             Err(TickError::Old { .. }) => {
-                self.counts.old = self.counts.old.saturating_add(1);
+                self.counts.old = more(self.counts.old, 1);
                 Ok(false)
             }
             Err(TickError::NoMemory) => Err(Status::Memory),
