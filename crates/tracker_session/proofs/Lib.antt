@@ -7,3 +7,4 @@ pub mod Settings
 pub mod Stepping
 pub mod Takings
 pub mod Tallying
+pub mod Telling

@@ -1,7 +1,7 @@
 -- One step of a replay.
 use Rattle.std.proofs.Common.{◌≡◌, ◌∙◌, ap, sym, refl, subst, inl, inr, ℕ, zero, suc, ◌+◌, ◌<◌, ◌≤◌, List, [], ◌∷◌, ◌++◌, length, get_or, drop, take, arith, append_assoc, append-nil, length-append}
-use Rattle.std.specs.List.{AllByRecursion}
-use Rattle.std.specs.Prelude.{map}
+use Rattle.std.specs.List.{AllByRecursion, filter_map}
+use Rattle.std.specs.Prelude.{map, max, fold}
 use Rattle.std.proofs.lemmas.List.{drop_all, drop_more, length-map, map-append, take_at, drop_at, take-append-le}
 use Rattle.std.proofs.Math.Seq.{take-add}
 use Rattle.std.specs.Io.KnownBytes.{Appends}
@@ -13,7 +13,10 @@ use Rattle.recording.specs.declared.item.Item.{Item as Held}
 use Rattle.recording.specs.Answers.{item_of, items_of}
 use Rattle.recording.specs.Items.{Item, tick, IsItem}
 use Rattle.admission_log.specs.declared.settings.Settings.{Settings}
-use Rattle.admission_log.specs.Histories.{History}
+use Rattle.admission_log.specs.declared.events.Event.TheVariants.{Tick}
+use Rattle.admission_log.specs.Histories.{History, appended, last_of, tick_in}
+use Rattle.std.proofs.lemmas.List.Sums.{fold-append}
+use Rattle.std.proofs.lemmas.List.Elements.{filter_map-append}
 use Rattle.tracker_session.specs.declared.replay.Run.{Run}
 use Rattle.tracker_session.specs.declared.screen.Counts.{Counts}
 use Rattle.tracker_session.specs.declared.status.Status.{Status}
@@ -27,6 +30,15 @@ use Rattle.tracker_session.specs.Tallies.{TakesTick}
 use Rattle.tracker_session.proofs.Outputs.{output_push, log_push, are_taken_push}
 use Rattle.tracker_session.proofs.Runs.{got_front}
 use Rattle.tracker_session.proofs.Tallying.{ticked_taken}
+
+-- the last tick of a log with a later tick
+pub last_with : (log : History) (time : ℕ) → last_of log < time → time ≡ last_of (appended log (Tick time))
+last_with log time later =
+    let chain : last_of (appended log (Tick time)) ≡ fold max (last_of log) (time ∷ []) = ap (fold max log.start) (filter_map-append tick_in log.events (Tick time ∷ [])) ∙ fold-append max log.start (filter_map tick_in log.events) (time ∷ []) in
+    omega (arith, later, chain)
+
+pub last_ticked : (time : ℕ) (run run' : Run) → TakesTick time run run' → time ≡ last_of run'.log
+last_ticked time run run' h = last_with run.log time h.later ∙ ap last_of (sym h.log)
 
 -- what was taken silently was taken
 pub silently : (settings : Settings) (item : Item) (run run' : Run) (host : HostState) → TakesSilently settings item run run' → Takes settings item run run' host host

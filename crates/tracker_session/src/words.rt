@@ -53,17 +53,18 @@ pub fn parse_words(alloc: Global, words: &[String]) -> Result<Command, WordsErro
     let input = input.as_str();
     let output = output.as_str();
     let prices = prices.as_str();
-    let is_replay = command == "replay"
+    if command == "replay"
         && is_name(settings)
         && is_name(input)
         && is_name(output)
-        && is_name(prices);
-    if !is_replay {
-        return Err(WordsError::Usage);
-    }
-    match replay_of(alloc, settings, input, output, prices) {
-        Some(command) => Ok(command),
-        None => Err(WordsError::NoMemory),
+        && is_name(prices)
+    {
+        match replay_of(alloc, settings, input, output, prices) {
+            Some(command) => Ok(command),
+            None => Err(WordsError::NoMemory),
+        }
+    } else {
+        Err(WordsError::Usage)
     }
 }
 
