@@ -1,5 +1,7 @@
 pub mod Closed
+pub mod Frames
 pub mod Inputs
+pub mod Outcomes
 pub mod Outputs
 pub mod Pictures
 pub mod Runs
