@@ -35,11 +35,11 @@ same_or_not places.Screen places.Screen = inl refl
 pub later_of : (place : Place) (old new : HostState) → ChangesOnly place old new → (p : Place) → old.faults p ≤ new.faults p
 later_of place old new h p = elim (same_or_not p place) [
   | inl e ↦ subst (λ (q : Place). old.faults q ≤ new.faults q) (sym e) h.later
-  | inr no ↦ omega (arith, h.faults p no)
+  | inr other ↦ omega (arith, h.faults p other)
 ]
 
 pub later_written : (place : Place) (old new : HostState) → WritesOnly place old new → (p : Place) → old.faults p ≤ new.faults p
 later_written place old new h p = elim (same_or_not p place) [
   | inl e ↦ subst (λ (q : Place). old.faults q ≤ new.faults q) (sym e) h.later
-  | inr no ↦ omega (arith, h.faults p no)
+  | inr other ↦ omega (arith, h.faults p other)
 ]

@@ -4,9 +4,11 @@ pub mod Inputs
 pub mod Outcomes
 pub mod Outputs
 pub mod Pictures
+pub mod Running
 pub mod Runs
 pub mod Settings
 pub mod Stepping
 pub mod Takings
 pub mod Tallying
 pub mod Telling
+pub mod Wording

@@ -87,13 +87,13 @@ front_none old new output same =
 -- ---- a replay under settings
 
 pub no_answer : (settings : admission.Settings) (octets : List ℕ) (s : Status) (old new : HostState) → (IsAnswer (Err s) → ⊥) → Answered settings octets (Err s) old new
-no_answer settings octets (Input offset) old new no = absurd (no tt)
-no_answer settings octets Done old new no = tt
-no_answer settings octets Usage old new no = tt
-no_answer settings octets (Settings fault) old new no = tt
-no_answer settings octets (Read spot) old new no = tt
-no_answer settings octets (Write spot) old new no = tt
-no_answer settings octets Memory old new no = tt
+no_answer settings octets (Input offset) old new never = absurd (never tt)
+no_answer settings octets Done old new never = tt
+no_answer settings octets Usage old new never = tt
+no_answer settings octets (Settings fault) old new never = tt
+no_answer settings octets (Read spot) old new never = tt
+no_answer settings octets (Write spot) old new never = tt
+no_answer settings octets Memory old new never = tt
 
 pub read_no_answer : (place : Place) (s : Status) (old new : HostState) → StopsReading place s old new → IsAnswer (Err s) → ⊥
 read_no_answer place (Input offset) old new h is = h
@@ -157,15 +157,15 @@ uses_read old new u = record {
 
 pub ran_unread : (settings : admission.Settings) (input output : List ℕ) (s : Status) (old new : HostState) → StopsReading places.Input s old new → BoundAtMost (new.bound places.Input) ways.Read input → UsesRead places.Input old new → old.bound places.Output ≡ None → RanUnder settings input output (Err s) old new
 ran_unread settings input output s old new stops bound uses unbound =
-    let no = read_no_answer places.Input s old new stops in
+    let never = read_no_answer places.Input s old new stops in
     let still = uses.others.bound places.Output output_input ∙ unbound in
     record {
-      answer = λ octets has. no_answer settings octets s old new no;
+      answer = λ octets has. no_answer settings octets s old new never;
       causes = read_causes s old new stops;
       front = λ octets has out counts fault r. front_none old new out (uses.got places.Output);
       order = λ is. record { bound = still; got = uses.got places.Output };
-      faultless = λ is. absurd (no is);
-      whole = λ is. absurd (no is);
+      faultless = λ is. absurd (never is);
+      whole = λ is. absurd (never is);
       input_bound = bound;
       output_bound = inl still;
       uses = uses_read old new uses;
@@ -183,14 +183,14 @@ uses_both old mid new u w got = record {
 pub ran_unopened : (settings : admission.Settings) (input output octets : List ℕ) (s : Status) (old mid new : HostState) → PlaceRead places.Input octets input old mid → UsesRead places.Input old mid → StopsWriting s mid new → new.bound places.Output ≡ Some (ways.Write, output) → ((p : Place) → new.got p ≡ mid.got p) → UsesWrite places.Output mid new → RanUnder settings input output (Err s) old new
 ran_unopened settings input output octets s old mid new read uses stops bound got opens =
     let since = stops_since s old mid new (later_of places.Input old mid uses.others places.Output) stops in
-    let no = write_no_answer s old new since in
+    let never = write_no_answer s old new since in
     record {
-      answer = λ octets' has. no_answer settings octets' s old new no;
+      answer = λ octets' has. no_answer settings octets' s old new never;
       causes = write_causes s old new since;
       front = λ octets' has out counts fault r. front_none old new out (got places.Output ∙ uses.got places.Output);
       order = λ is. absurd (write_not_before s old new since is);
-      faultless = λ is. absurd (no is);
-      whole = λ is. absurd (no is);
+      faultless = λ is. absurd (never is);
+      whole = λ is. absurd (never is);
       input_bound = inr (opens.others.bound places.Input input_output ∙ read.bound);
       output_bound = inr bound;
       uses = uses_both old mid new uses opens got;
@@ -200,7 +200,7 @@ moved_up : (settings : admission.Settings) (octets all : List ℕ) (counts : Cou
 moved_up settings octets all counts fault old mid new alike got h =
     (h.0, replays_alike settings octets all h.0 counts fault alike h.1, subst (λ (g : Option (List ℕ)). Appends g (new.got places.Output) h.0) got h.2)
 
-answered_up : (settings : admission.Settings) (octets all : List ℕ) (r : Result Counts Status) (old mid new : HostState) → Alike octets all → mid.got places.Output ≡ old.got places.Output → Answered settings octets r mid new → Answered settings all r old new
+pub answered_up : (settings : admission.Settings) (octets all : List ℕ) (r : Result Counts Status) (old mid new : HostState) → Alike octets all → mid.got places.Output ≡ old.got places.Output → Answered settings octets r mid new → Answered settings all r old new
 answered_up settings octets all (Ok counts) old mid new alike got h = moved_up settings octets all counts None old mid new alike got h
 answered_up settings octets all (Err (Input offset)) old mid new alike got h = (h.0, moved_up settings octets all h.0 (Some offset) old mid new alike got h.1)
 answered_up settings octets all (Err Done) old mid new alike got h = tt
