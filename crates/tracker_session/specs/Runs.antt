@@ -1,5 +1,5 @@
 -- What came of a replay, before Screen got anything.
-use Rattle.std.specs.Prelude.{◌≡◌, ◌≢◌, ◌≤◌, ◌⊎◌, ⊤, ℕ, List, length, Option, Some, None, Result, Ok, Err}
+use Rattle.std.specs.Prelude.{◌≡◌, ◌≢◌, ◌≤◌, ◌⊎◌, ⊤, ℕ, List, length, Option, Some, None, Result, Ok, Err, string_bytes}
 use Rattle.io_traits.specs.Host.{HostState, IsEmpty}
 use Rattle.io_traits.specs.declared.host.Place.{Place}
 use Rattle.io_traits.specs.declared.host.Place.TheVariants as places
@@ -11,6 +11,8 @@ use Rattle.tracker_session.specs.declared.screen.Counts.{Counts}
 use Rattle.tracker_session.specs.declared.status.Spot.TheVariants as spots
 use Rattle.tracker_session.specs.declared.status.Status.{Status}
 use Rattle.tracker_session.specs.declared.status.Status.TheVariants.{Done, Usage, Settings, Input, Read, Write, Memory}
+use Rattle.tracker_session.specs.declared.words.Command.{Command}
+use Rattle.tracker_session.specs.declared.words.Command.TheVariants.{Replay}
 use Rattle.tracker_session.specs.Answers.{IsAnswer, Answered, ReplayedFront, BreaksOff}
 use Rattle.tracker_session.specs.Inputs.{limit}
 use Rattle.tracker_session.specs.Places.{Has, HasFailed, BoundAtMost, IsFaultless, UsesInputAndOutput}
@@ -94,3 +96,7 @@ EndsFor (Err (Read spot)) old new = ((spot ≡ spots.Settings) × HasFailed plac
 EndsFor (Err (Input offset)) old new = ⊤
 EndsFor (Err (Write spot)) old new = (spot ≡ spots.Output) × HasFailed places.Output old new
 EndsFor (Err Memory) old new = ⊤
+
+-- .. by the command
+abbrev pub CommandRan : Command → Result Counts Status → HostState → HostState → Type 0
+CommandRan (Replay settings input output prices workers) result old new = Ran (string_bytes settings) (string_bytes input) (string_bytes output) result old new

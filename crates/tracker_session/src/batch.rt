@@ -12,7 +12,7 @@ ghost use Rattle.tracker_session.specs.declared.status.Status.{Status};
 ghost use Rattle.tracker_session.specs.Places.{BoundAtMost, Has, HasFailed, UsesFour};
 ghost use Rattle.tracker_session.specs.Replay.{Replays};
 ghost use Rattle.tracker_session.specs.Answers.{ReplayedFront};
-ghost use Rattle.tracker_session.specs.Runs.{EndsFor, IsUntouched, Ran, RanUnder, RanNothing, UsesThree};
+ghost use Rattle.tracker_session.specs.Runs.{CommandRan, EndsFor, IsUntouched, Ran, RanUnder, RanNothing, UsesThree};
 ghost use Rattle.tracker_session.specs.Screen.{status_line};
 ghost use Rattle.tracker_session.specs.Telling.{CountsTold, Told, ToldAtEnd};
 ghost use Rattle.tracker_session.specs.Ends.{AreBound, DoneUnder, InputUnder, IsEarly, IsEnd, NoFailure, status_at};
@@ -103,6 +103,21 @@ fn tell_counts<H: Host>(alloc: Global, counts: &Counts, host: &mut H) -> Status
     }
 }
 
+// Carries out a command that the words are, but for what Screen gets.
+fn run_command<H: Host>(alloc: Global, command: Command, host: &mut H) -> Result<Counts, Status>
+    requires { (p : Place) → (H.state host.old).bound p ≡ None }
+    ensures { CommandRan command result (H.state host.old) (H.state host.new) }
+{
+    let Command::Replay {
+        settings,
+        input,
+        output,
+        prices: _prices,
+        workers: _workers,
+    } = command;
+    run_replay(alloc, settings, input, output, host)
+}
+
 // Carries out a command, but for what Screen gets.
 fn carry_out<H: Host>(alloc: Global, words: &[String], host: &mut H) -> Result<Counts, Status>
     requires { (p : Place) → (H.state host.old).bound p ≡ None }
@@ -116,12 +131,7 @@ fn carry_out<H: Host>(alloc: Global, words: &[String], host: &mut H) -> Result<C
     ensures causes { EndsFor result (H.state host.old) (H.state host.new) }
 {
     match parse_words(alloc, words) {
-        Ok(Command::Replay {
-            settings,
-            input,
-            output,
-            ..
-        }) => run_replay(alloc, settings, input, output, host),
+        Ok(command) => run_command(alloc, command, host),
         Err(WordsError::Usage) => Err(Status::Usage),
         Err(WordsError::NoMemory) => Err(Status::Memory),
     }
