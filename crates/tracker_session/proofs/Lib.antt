@@ -1,4 +1,5 @@
 pub mod Closed
+pub mod Finishing
 pub mod Frames
 pub mod Inputs
 pub mod Outcomes

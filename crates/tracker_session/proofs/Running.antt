@@ -76,6 +76,7 @@ ran_unread settings input output s old new stops bound uses unbound =
     let still = uses.others.bound places.Output output_settings ∙ unbound places.Output in
     record {
       answer = λ is. absurd (never is);
+      settled = λ is. absurd (never is);
       fault = λ f e document has. absurd (subst (λ (t : Status). StopsReading places.Settings t old new) (statuses_same s (Settings f) e) stops);
       causes = unread_breaks s old new stops;
       front = λ document octets given hs is hi out counts fault r. front_none old new out (uses.got places.Output);
@@ -115,6 +116,7 @@ ran_unsettled settings input output octets s old new read uses stops unbound =
     let still = uses.others.bound places.Output output_settings ∙ unbound places.Output in
     record {
       answer = λ is. absurd (never is);
+      settled = λ is. absurd (never is);
       fault = λ f e document has. answer_alike octets document (Err f) (read_alike places.Settings octets settings document old new read has) (subst (λ (t : Status). StopsJudging octets t) (statuses_same s (Settings f) e) stops);
       causes = judged_breaks octets s old new stops;
       front = λ document octets' given hs is hi out counts fault r. front_none old new out (uses.got places.Output);
@@ -150,6 +152,7 @@ ran_under settings input output octets given r old mid new read uses gives u =
         gives = answer_alike octets document (Ok given) (read_alike places.Settings octets settings document old mid read hs) gives;
         answered = answered_up given all all r old mid new (inl refl) (uses.got places.Output) (u.answer all (uses.others.left places.Input input_settings ∙ hi));
       };
+      settled = λ is document hs. (given, answer_alike octets document (Ok given) (read_alike places.Settings octets settings document old mid read hs) gives);
       fault = λ f e document has. absurd (subst (λ (t : Result Counts Status). BreaksOff t mid new) e u.causes);
       causes = breaks_up r old mid new later u.causes;
       front = λ document all other hs is hi out counts fault h. (
@@ -187,6 +190,7 @@ uses_nothing host = record { bound = λ p s i o. refl; left = λ p s i. refl; go
 pub ran_nothing : (settings input output : List ℕ) (host : HostState) → ((p : Place) → host.bound p ≡ None) → Ran settings input output (Err Memory) host host
 ran_nothing settings input output host unbound = record {
   answer = λ is. absurd is;
+  settled = λ is. absurd is;
   fault = λ f e document has. absurd cc;
   causes = tt;
   front = λ document octets given hs is hi out counts fault r. front_none host host out refl;

@@ -68,6 +68,7 @@ pub record ReplayedUnder (document input : List ℕ) (result : Result Counts Sta
 -- What came of a replay of settings, an input and an output with these names.
 pub record Ran (settings input output : List ℕ) (result : Result Counts Status) (old new : HostState) : Type 0 where
   pub answer : IsAnswer result → (document octets : List ℕ) → Has places.Settings old document → Has places.Input old octets → ReplayedUnder document octets result old new
+  pub settled : IsAnswer result → (document : List ℕ) → Has places.Settings old document → (given : admission.Settings) × texts.IsAnswer document (Ok given)
   pub fault : (fault : SettingsFault) → result ≡ Err (Settings fault) → (document : List ℕ) → Has places.Settings old document → texts.IsAnswer document (Err fault)
   pub causes : Breaks result old new
   pub front : (document octets : List ℕ) (given : admission.Settings) → Has places.Settings old document → texts.IsAnswer document (Ok given) → Has places.Input old octets → ReplayedFront given octets old new
