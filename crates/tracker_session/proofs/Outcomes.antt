@@ -1,25 +1,29 @@
--- From what was read of Input to what Input had, and from step to step.
-use Rattle.std.proofs.Common.{◌≡◌, ◌≢◌, ◌∙◌, ap, sym, refl, subst, inl, inr, ℕ, ◌<◌, ◌≤◌, ◌⊎◌, List, [], ◌++◌, length, take, arith, length-append, append-nil}
-use Rattle.std.specs.Prelude.{Option, Some, None}
+-- From what was read of a place to what it had, and from step to step.
+use Rattle.std.proofs.Common.{◌≡◌, ◌≢◌, ◌∙◌, ap, sym, refl, subst, inl, inr, ℕ, ◌<◌, ◌≤◌, ◌⊎◌, List, [], ◌++◌, length, take, arith, length-append}
+use Rattle.std.specs.Prelude.{Option, Some, None, Result, Ok, Err}
 use Rattle.std.proofs.lemmas.Bool.{cases_lt}
 use Rattle.std.proofs.lemmas.List.{take-append-le}
 use Rattle.std.specs.Io.KnownBytes.{Appends, Consumes}
 use Rattle.io_traits.specs.Host.{HostState, IsEmpty, WritesOnly}
 use Rattle.io_traits.specs.declared.host.Place.{Place}
 use Rattle.io_traits.specs.declared.host.Place.TheVariants as places
+use Rattle.io_traits.specs.declared.host.Way.TheVariants as ways
 use Rattle.io_traits.proofs.Known.{Consumes_all, Appends_nothing}
+use Rattle.io_traits.proofs.Faulting.{Rose_since}
 use Rattle.recording.specs.Items.{Item}
 use Rattle.recording.specs.Readings.{IsReadingOfFront}
+use Rattle.admission_log.specs.declared.settings.Settings as admission
+use Rattle.tracker_session.specs.declared.screen.Counts.{Counts}
 use Rattle.tracker_session.specs.declared.status.Spot.{Spot}
-use Rattle.tracker_session.specs.declared.status.Spot.TheVariants as spots
 use Rattle.tracker_session.specs.declared.status.Status.{Status}
-use Rattle.tracker_session.specs.declared.status.Status.TheVariants.{Done, Usage, Input, Read, Write, Memory, NotBuilt}
-use Rattle.tracker_session.specs.Answers.{Answers, IsAnswer, Replayed, ReplayedFront}
-use Rattle.tracker_session.specs.Places.{AppendsFront, InputHas, InputRead, InputFailed, IsFaultless, OutputBound, OutputFailed, OutputGotFront, StopsWriting, UsesInput, UsesOutput}
+use Rattle.tracker_session.specs.declared.status.Status.TheVariants.{Done, Usage, Settings, Input, Read, Write, Memory}
+use Rattle.tracker_session.specs.Answers.{IsAnswer, Replayed, Answered, ReplayedFront, BreaksOff, WritingBreaksOff}
+use Rattle.tracker_session.specs.Places.{AppendsFront, Has, Got, GotFront, HasFailed, BoundAtMost, PlaceRead, IsFaultless, OutputBound, StopsReading, StopsWriting, UsesRead, UsesWrite, UsesInputAndOutput}
 use Rattle.tracker_session.specs.Inputs.{IsRead, limit}
 use Rattle.tracker_session.specs.Replay.{Replays}
-use Rattle.tracker_session.specs.Steps.{status_at}
-use Rattle.tracker_session.proofs.Runs.{one_replay, front_got}
+use Rattle.tracker_session.specs.Runs.{RanUnder, IsBeforeOutput, IsUntouched}
+use Rattle.tracker_session.proofs.Frames.{later_of, later_written}
+use Rattle.tracker_session.proofs.Stepping.{stops_since}
 
 -- Two inputs that are one, or both pass the limit and are one before it.
 pub record BothLong (a b : List ℕ) : Type 0 where
@@ -42,119 +46,196 @@ reading_alike a b start items fault h r =
     }
 
 -- they are replayed alike
-pub replays_alike : (a b output : List ℕ) (status : Status) → Alike a b → Replays a output status → Replays b output status
-replays_alike a b output status (inl e) r = subst (λ (o : List ℕ). Replays o output status) e r
-replays_alike a b output status (inr h) r = record {
+pub replays_alike : (settings : admission.Settings) (a b output : List ℕ) (counts : Counts) (fault : Option ℕ) → Alike a b → Replays settings a output counts fault → Replays settings b output counts fault
+replays_alike settings a b output counts fault (inl e) r = subst (λ (o : List ℕ). Replays settings o output counts fault) e r
+replays_alike settings a b output counts fault (inr h) r = record {
   start = r.start;
   items = r.items;
-  fault = r.fault;
-  reading = reading_alike a b r.start r.items r.fault h r.reading;
-  built = r.built;
-  others = r.others;
-  parts = r.parts;
-  built_fit = r.built_fit;
-  stops = r.stops;
+  reading = reading_alike a b r.start r.items fault h r.reading;
+  taken = r.taken;
+  items_are = r.items_are;
+  are_taken = r.are_taken;
   output_is = r.output_is;
-  status_is = r.status_is;
+  counts_are = r.counts_are;
 }
 
-consumed : (a b : Option (List ℕ)) (s xs : List ℕ) → Consumes a b s → a ≡ Some xs → (more : List ℕ) × (xs ≡ s ++ more)
+pub consumed : (a b : Option (List ℕ)) (s xs : List ℕ) → Consumes a b s → a ≡ Some xs → (more : List ℕ) × (xs ≡ s ++ more)
 consumed None b s xs h e = absurd cc
 consumed (Some ys) None s xs h e = absurd h
 consumed (Some ys) (Some zs) s xs h e = (let same : ys ≡ xs = cc in (zs, sym same ∙ h))
 
--- what was read is replayed like what Input had
-read_alike : (octets name all : List ℕ) (old new : HostState) → InputRead octets name old new → InputHas old all → Alike octets all
-read_alike octets name all old new r has =
+-- what was read stands for what the place had
+pub read_alike : (place : Place) (octets name all : List ℕ) (old new : HostState) → PlaceRead place octets name old new → Has place old all → Alike octets all
+read_alike place octets name all old new r has =
     elim (cases_lt limit (length octets)) [
-      | inl long ↦ (let more = consumed (old.left places.Input) (new.left places.Input) octets all r.taken has in
+      | inl long ↦ (let more = consumed (old.left place) (new.left place) octets all r.taken has in
           inr (record { front = sym (ap (take limit) more.1 ∙ take-append-le limit octets more.0 (omega arith)); long = long; long' = omega (arith, long, ap length more.1, length-append octets more.0) }))
-      | inr short ↦ inl (Consumes_all (old.left places.Input) (new.left places.Input) octets all r.taken (r.whole short) has)
+      | inr short ↦ inl (Consumes_all (old.left place) (new.left place) octets all r.taken (r.whole short) has)
     ]
 
-answered : (octets : List ℕ) (s : Status) (old new : HostState) → IsAnswer s → Answers octets s old new → Replayed octets s old new
-answered octets Done old new is h = h.replayed
-answered octets (Input offset) old new is h = h.replayed
-answered octets (NotBuilt item) old new is h = h.replayed
-answered octets Usage old new is h = absurd is
-answered octets (Read spot) old new is h = absurd is
-answered octets (Write spot) old new is h = absurd is
-answered octets Memory old new is h = absurd is
-
--- The replay began with nothing written since the call's start.
-pub replayed_all : (octets name all : List ℕ) (s : Status) (old read mid new : HostState) → InputRead octets name old read → InputHas old all → mid.got places.Output ≡ old.got places.Output → IsAnswer s → Answers octets s mid new → Replayed all s old new
-replayed_all octets name all s old read mid new r has got is h =
-    let mine = answered octets s mid new is h in
-    (mine.0, replays_alike octets all mine.0 s (read_alike octets name all old read r has) mine.1, subst (λ (g : Option (List ℕ)). Appends g (new.got places.Output) mine.0) got mine.2)
-
-pub front_all : (octets name all : List ℕ) (old read mid new : HostState) → InputRead octets name old read → InputHas old all → mid.got places.Output ≡ old.got places.Output → ReplayedFront octets mid new → ReplayedFront all old new
-front_all octets name all old read mid new r has got h output status replays =
-    subst (λ (g : Option (List ℕ)). AppendsFront g (new.got places.Output) output) got (h output status (replays_alike all octets output status (turned octets all (read_alike octets name all old read r has)) replays))
+-- what the place had was read to its end, unless it passes the limit
+pub whole_read : (place : Place) (octets name all : List ℕ) (old new : HostState) → PlaceRead place octets name old new → Has place old all → length all ≤ limit → IsEmpty (new.left place)
+whole_read place octets name all old new read has short =
+    let more = consumed (old.left place) (new.left place) octets all read.taken has in
+    read.whole (omega (arith, short, ap length more.1, length-append octets more.0))
 
 -- nothing was written at all
-pub front_none : (old new : HostState) (output : List ℕ) → new.got places.Output ≡ old.got places.Output → OutputGotFront old new output
+pub front_none : (old new : HostState) (output : List ℕ) → new.got places.Output ≡ old.got places.Output → GotFront places.Output old new output
 front_none old new output same =
     (0, omega arith, subst (λ (g : Option (List ℕ)). Appends (old.got places.Output) g []) (sym same) (Appends_nothing (old.got places.Output)))
 
--- An answer that is no fault and no want of memory is the replay's.
-pub complete : (octets output : List ℕ) (s status : Status) (old new : HostState) → s ≢ Usage → (IsAnswer s → Replayed octets s old new) → ((spot : Spot) → s ≡ Read spot → (spot ≡ spots.Input) × InputFailed old new) → ((spot : Spot) → s ≡ Write spot → (spot ≡ spots.Output) × OutputFailed old new)
-    → Replays octets output status → (InputFailed old new → ⊥) → (OutputFailed old new → ⊥) → s ≢ Memory → s ≡ status
-complete octets output Done status old new known answer read write replays input output' memory = (let mine = answer tt in (one_replay octets mine.0 output Done status mine.1 replays).1)
-complete octets output (Input offset) status old new known answer read write replays input output' memory = (let mine = answer tt in (one_replay octets mine.0 output (Input offset) status mine.1 replays).1)
-complete octets output (NotBuilt item) status old new known answer read write replays input output' memory = (let mine = answer tt in (one_replay octets mine.0 output (NotBuilt item) status mine.1 replays).1)
-complete octets output Usage status old new known answer read write replays input output' memory = absurd (known refl)
-complete octets output (Read spot) status old new known answer read write replays input output' memory = absurd (input (read spot refl).1)
-complete octets output (Write spot) status old new known answer read write replays input output' memory = absurd (output' (write spot refl).1)
-complete octets output Memory status old new known answer read write replays input output' memory = absurd (memory refl)
+-- ---- a replay under settings
 
--- ---- the answers of the steps
+pub no_answer : (settings : admission.Settings) (octets : List ℕ) (s : Status) (old new : HostState) → (IsAnswer (Err s) → ⊥) → Answered settings octets (Err s) old new
+no_answer settings octets (Input offset) old new never = absurd (never tt)
+no_answer settings octets Done old new never = tt
+no_answer settings octets Usage old new never = tt
+no_answer settings octets (Settings fault) old new never = tt
+no_answer settings octets (Read spot) old new never = tt
+no_answer settings octets (Write spot) old new never = tt
+no_answer settings octets Memory old new never = tt
 
-status_answers : (not_built fault : Option ℕ) → IsAnswer (status_at not_built fault)
-status_answers None None = tt
-status_answers None (Some offset) = tt
-status_answers (Some number) fault = tt
+pub read_no_answer : (place : Place) (s : Status) (old new : HostState) → StopsReading place s old new → IsAnswer (Err s) → ⊥
+read_no_answer place (Input offset) old new h is = h
+read_no_answer place Done old new h is = is
+read_no_answer place Usage old new h is = is
+read_no_answer place (Settings fault) old new h is = is
+read_no_answer place (Read spot) old new h is = is
+read_no_answer place (Write spot) old new h is = is
+read_no_answer place Memory old new h is = is
 
-answers_of : (octets : List ℕ) (s : Status) (old new : HostState) → IsAnswer s → Replayed octets s old new → new.faults places.Output ≡ old.faults places.Output → Answers octets s old new
-answers_of octets Done old new is h faults = record { replayed = h; faults = faults }
-answers_of octets (Input offset) old new is h faults = record { replayed = h; faults = faults }
-answers_of octets (NotBuilt item) old new is h faults = record { replayed = h; faults = faults }
-answers_of octets Usage old new is h faults = absurd is
-answers_of octets (Read spot) old new is h faults = absurd is
-answers_of octets (Write spot) old new is h faults = absurd is
-answers_of octets Memory old new is h faults = absurd is
+write_no_answer : (s : Status) (old new : HostState) → StopsWriting s old new → IsAnswer (Err s) → ⊥
+write_no_answer (Input offset) old new h is = h
+write_no_answer Done old new h is = is
+write_no_answer Usage old new h is = is
+write_no_answer (Settings fault) old new h is = is
+write_no_answer (Read spot) old new h is = is
+write_no_answer (Write spot) old new h is = is
+write_no_answer Memory old new h is = is
 
-pub ended_answers : (octets : List ℕ) (s : Status) (not_built fault : Option ℕ) (old new : HostState) → s ≡ status_at not_built fault → Replayed octets (status_at not_built fault) old new → new.faults places.Output ≡ old.faults places.Output → Answers octets s old new
-ended_answers octets s not_built fault old new is h faults =
-    subst (λ (t : Status). Answers octets t old new) (sym is) (answers_of octets (status_at not_built fault) old new (status_answers not_built fault) h faults)
+read_causes : (s : Status) (old new : HostState) → StopsReading places.Input s old new → BreaksOff (Err s) old new
+read_causes (Input offset) old new h = absurd h
+read_causes Done old new h = absurd h
+read_causes Usage old new h = absurd h
+read_causes (Settings fault) old new h = absurd h
+read_causes (Read spot) old new h = h
+read_causes (Write spot) old new h = absurd h
+read_causes Memory old new h = tt
 
-pub replayed_front : (octets : List ℕ) (s : Status) (old new : HostState) → Replayed octets s old new → ReplayedFront octets old new
-replayed_front octets s old new h output status r =
-    let same = one_replay octets output h.0 status s r h.1 in
-    front_got old new h.0 [] output (same.0 ∙ sym (append-nil h.0)) h.2
+write_causes : (s : Status) (old new : HostState) → StopsWriting s old new → BreaksOff (Err s) old new
+write_causes (Input offset) old new h = absurd h
+write_causes Done old new h = absurd h
+write_causes Usage old new h = absurd h
+write_causes (Settings fault) old new h = absurd h
+write_causes (Read spot) old new h = absurd h
+write_causes (Write spot) old new h = h
+write_causes Memory old new h = tt
 
--- an answer leaves the count of Output as it was
-answer_faults : (octets : List ℕ) (s : Status) (old new : HostState) → IsAnswer s → Answers octets s old new → new.faults places.Output ≡ old.faults places.Output
-answer_faults octets Done old new is h = h.faults
-answer_faults octets (Input offset) old new is h = h.faults
-answer_faults octets (NotBuilt item) old new is h = h.faults
-answer_faults octets Usage old new is h = absurd is
-answer_faults octets (Read spot) old new is h = absurd is
-answer_faults octets (Write spot) old new is h = absurd is
-answer_faults octets Memory old new is h = absurd is
+write_not_before : (s : Status) (old new : HostState) → StopsWriting s old new → IsBeforeOutput (Err s) → ⊥
+write_not_before (Input offset) old new h is = is
+write_not_before Done old new h is = is
+write_not_before Usage old new h is = is
+write_not_before (Settings fault) old new h is = h
+write_not_before (Read spot) old new h is = h
+write_not_before (Write spot) old new h is = is
+write_not_before Memory old new h is = is
 
-input_output : places.Input ≢ places.Output
-input_output e = cc
-
-output_input : places.Output ≢ places.Input
+pub output_input : places.Output ≢ places.Input
 output_input e = cc
 
+pub input_output : places.Input ≢ places.Output
+input_output e = cc
+
+uses_read : (old new : HostState) → UsesRead places.Input old new → UsesInputAndOutput old new
+uses_read old new u = record {
+  bound = λ p i o. u.others.bound p i;
+  left = λ p i. u.others.left p i;
+  got = λ p o. u.got p;
+  faults = λ p i o. u.others.faults p i;
+  later = later_of places.Input old new u.others;
+}
+
+pub ran_unread : (settings : admission.Settings) (input output : List ℕ) (s : Status) (old new : HostState) → StopsReading places.Input s old new → BoundAtMost (new.bound places.Input) ways.Read input → UsesRead places.Input old new → old.bound places.Output ≡ None → RanUnder settings input output (Err s) old new
+ran_unread settings input output s old new stops bound uses unbound =
+    let never = read_no_answer places.Input s old new stops in
+    let still = uses.others.bound places.Output output_input ∙ unbound in
+    record {
+      answer = λ octets has. no_answer settings octets s old new never;
+      causes = read_causes s old new stops;
+      front = λ octets has out counts fault r. front_none old new out (uses.got places.Output);
+      order = λ is. record { bound = still; got = uses.got places.Output };
+      faultless = λ is. absurd (never is);
+      whole = λ is. absurd (never is);
+      input_bound = bound;
+      output_bound = inl still;
+      uses = uses_read old new uses;
+    }
+
+uses_both : (old mid new : HostState) → UsesRead places.Input old mid → UsesWrite places.Output mid new → ((p : Place) → new.got p ≡ mid.got p) → UsesInputAndOutput old new
+uses_both old mid new u w got = record {
+  bound = λ p i o. w.others.bound p o ∙ u.others.bound p i;
+  left = λ p i. w.left p ∙ u.others.left p i;
+  got = λ p o. got p ∙ u.got p;
+  faults = λ p i o. w.others.faults p o ∙ u.others.faults p i;
+  later = λ p. omega (arith, later_of places.Input old mid u.others p, later_of places.Output mid new w.others p);
+}
+
+pub ran_unopened : (settings : admission.Settings) (input output octets : List ℕ) (s : Status) (old mid new : HostState) → PlaceRead places.Input octets input old mid → UsesRead places.Input old mid → StopsWriting s mid new → new.bound places.Output ≡ Some (ways.Write, output) → ((p : Place) → new.got p ≡ mid.got p) → UsesWrite places.Output mid new → RanUnder settings input output (Err s) old new
+ran_unopened settings input output octets s old mid new read uses stops bound got opens =
+    let since = stops_since s old mid new (later_of places.Input old mid uses.others places.Output) stops in
+    let never = write_no_answer s old new since in
+    record {
+      answer = λ octets' has. no_answer settings octets' s old new never;
+      causes = write_causes s old new since;
+      front = λ octets' has out counts fault r. front_none old new out (got places.Output ∙ uses.got places.Output);
+      order = λ is. absurd (write_not_before s old new since is);
+      faultless = λ is. absurd (never is);
+      whole = λ is. absurd (never is);
+      input_bound = inr (opens.others.bound places.Input input_output ∙ read.bound);
+      output_bound = inr bound;
+      uses = uses_both old mid new uses opens got;
+    }
+
+moved_up : (settings : admission.Settings) (octets all : List ℕ) (counts : Counts) (fault : Option ℕ) (old mid new : HostState) → Alike octets all → mid.got places.Output ≡ old.got places.Output → Replayed settings octets counts fault mid new → Replayed settings all counts fault old new
+moved_up settings octets all counts fault old mid new alike got h =
+    (h.0, replays_alike settings octets all h.0 counts fault alike h.1, subst (λ (g : Option (List ℕ)). Appends g (new.got places.Output) h.0) got h.2)
+
+pub answered_up : (settings : admission.Settings) (octets all : List ℕ) (r : Result Counts Status) (old mid new : HostState) → Alike octets all → mid.got places.Output ≡ old.got places.Output → Answered settings octets r mid new → Answered settings all r old new
+answered_up settings octets all (Ok counts) old mid new alike got h = moved_up settings octets all counts None old mid new alike got h
+answered_up settings octets all (Err (Input offset)) old mid new alike got h = (h.0, moved_up settings octets all h.0 (Some offset) old mid new alike got h.1)
+answered_up settings octets all (Err Done) old mid new alike got h = tt
+answered_up settings octets all (Err Usage) old mid new alike got h = tt
+answered_up settings octets all (Err (Settings fault)) old mid new alike got h = tt
+answered_up settings octets all (Err (Read spot)) old mid new alike got h = tt
+answered_up settings octets all (Err (Write spot)) old mid new alike got h = tt
+answered_up settings octets all (Err Memory) old mid new alike got h = tt
+
+causes_up : (r : Result Counts Status) (old mid new : HostState) → old.faults places.Output ≤ mid.faults places.Output → WritingBreaksOff r mid new → BreaksOff r old new
+causes_up (Ok counts) old mid new later h = tt
+causes_up (Err (Input offset)) old mid new later h = tt
+causes_up (Err (Write spot)) old mid new later h = (h.0, Rose_since (old.faults places.Output) (mid.faults places.Output) (new.faults places.Output) later h.1)
+causes_up (Err Memory) old mid new later h = tt
+causes_up (Err Done) old mid new later h = absurd h
+causes_up (Err Usage) old mid new later h = absurd h
+causes_up (Err (Settings fault)) old mid new later h = absurd h
+causes_up (Err (Read spot)) old mid new later h = absurd h
+
+taken_not_before : (r : Result Counts Status) (old new : HostState) → WritingBreaksOff r old new → IsBeforeOutput r → ⊥
+taken_not_before (Ok counts) old new h is = is
+taken_not_before (Err (Input offset)) old new h is = is
+taken_not_before (Err (Write spot)) old new h is = is
+taken_not_before (Err Memory) old new h is = is
+taken_not_before (Err Done) old new h is = is
+taken_not_before (Err Usage) old new h is = is
+taken_not_before (Err (Settings fault)) old new h is = h
+taken_not_before (Err (Read spot)) old new h is = h
+
 -- where a place is neither, no step changes its count
-kept_faults : (p : Place) → p ≢ places.Input → p ≢ places.Output → (a r o z : HostState) → UsesInput a r → UsesOutput r o → WritesOnly places.Output o z → z.faults p ≡ a.faults p
+kept_faults : (p : Place) → p ≢ places.Input → p ≢ places.Output → (a r o z : HostState) → UsesRead places.Input a r → UsesWrite places.Output r o → WritesOnly places.Output o z → z.faults p ≡ a.faults p
 kept_faults p not_input not_output a r o z first second third = third.faults p not_output ∙ second.others.faults p not_output ∙ first.others.faults p not_input
 
--- the steps of a replay that is done, one after the other
-pub faultless : (input output octets : List ℕ) (s : Status) (a r o z : HostState) → InputRead octets input a r → UsesInput a r → OutputBound output r o → UsesOutput r o → WritesOnly places.Output o z → IsAnswer s → Answers octets s o z → IsFaultless input output a z
-faultless input output octets s a r o z read first bound second third is answer =
+faultless : (input output octets : List ℕ) (a r o z : HostState) → PlaceRead places.Input octets input a r → UsesRead places.Input a r → OutputBound output r o → UsesWrite places.Output r o → WritesOnly places.Output o z → z.faults places.Output ≡ o.faults places.Output → IsFaultless input output a z
+faultless input output octets a r o z read first bound second third kept =
     record {
       input_bound = third.bound places.Input ∙ second.others.bound places.Input input_output ∙ read.bound;
       output_bound = third.bound places.Output ∙ bound.bound;
@@ -163,20 +244,31 @@ faultless input output octets s a r o z read first bound second third is answer 
   where
     all : (p : Place) → z.faults p ≡ a.faults p
     all places.Input = third.faults places.Input input_output ∙ second.others.faults places.Input input_output ∙ read.faults
-    all places.Output = answer_faults octets s o z is answer ∙ bound.faults ∙ first.others.faults places.Output output_input
+    all places.Output = kept ∙ bound.faults ∙ first.others.faults places.Output output_input
     all places.Settings = kept_faults places.Settings (λ e. cc) (λ e. cc) a r o z first second third
     all places.Prices = kept_faults places.Prices (λ e. cc) (λ e. cc) a r o z first second third
     all places.Screen = kept_faults places.Screen (λ e. cc) (λ e. cc) a r o z first second third
 
--- what Input had was read to its end, unless it passes the limit
-pub whole_read : (octets input all : List ℕ) (a r o z : HostState) → InputRead octets input a r → UsesOutput r o → WritesOnly places.Output o z → InputHas a all → length all ≤ limit → IsEmpty (z.left places.Input)
-whole_read octets input all a r o z read second third has short =
-    let more = consumed (a.left places.Input) (r.left places.Input) octets all read.taken has in
-    subst IsEmpty (sym (third.left places.Input ∙ second.left places.Input)) (read.whole (omega (arith, short, ap length more.1, length-append octets more.0)))
-
--- no answer of a replay or of Output is that reading failed
-pub replay_reads : (octets : List ℕ) (s : Status) (spot : Spot) (old new : HostState) → Answers octets s old new → s ≡ Read spot → ⊥
-replay_reads octets s spot old new h e = subst (λ (t : Status). Answers octets t old new) e h
-
-pub opening_reads : (s : Status) (spot : Spot) (old new : HostState) → StopsWriting s old new → s ≡ Read spot → ⊥
-opening_reads s spot old new h e = subst (λ (t : Status). StopsWriting t old new) e h
+pub ran_taken : (settings : admission.Settings) (input output octets : List ℕ) (r : Result Counts Status) (old read mid new : HostState) → PlaceRead places.Input octets input old read → UsesRead places.Input old read → OutputBound output read mid → ((p : Place) → mid.got p ≡ read.got p) → UsesWrite places.Output read mid → Answered settings octets r mid new → WritingBreaksOff r mid new → (IsAnswer r → new.faults places.Output ≡ mid.faults places.Output) → ReplayedFront settings octets mid new → WritesOnly places.Output mid new → RanUnder settings input output r old new
+ran_taken settings input output octets r old read mid new reads uses bound got opens answer causes kept front writes =
+    let same = got places.Output ∙ uses.got places.Output in
+    let first = later_of places.Input old read uses.others places.Output in
+    let second = later_of places.Output read mid opens.others places.Output in
+    record {
+      answer = λ all has. answered_up settings octets all r old mid new (read_alike places.Input octets input all old read reads has) same answer;
+      causes = causes_up r old mid new (omega (arith, first, second)) causes;
+      front = λ all has out counts fault h.
+          subst (λ (g : Option (List ℕ)). AppendsFront g (new.got places.Output) out) same (front out counts fault (replays_alike settings all octets out counts fault (turned octets all (read_alike places.Input octets input all old read reads has)) h));
+      order = λ is. absurd (taken_not_before r mid new causes is);
+      faultless = λ is. faultless input output octets old read mid new reads uses bound opens writes (kept is);
+      whole = λ is all has short. subst IsEmpty (sym (writes.left places.Input ∙ opens.left places.Input)) (whole_read places.Input octets input all old read reads has short);
+      input_bound = inr (writes.bound places.Input ∙ opens.others.bound places.Input input_output ∙ reads.bound);
+      output_bound = inr (writes.bound places.Output ∙ bound.bound);
+      uses = record {
+        bound = λ p i o. writes.bound p ∙ opens.others.bound p o ∙ uses.others.bound p i;
+        left = λ p i. writes.left p ∙ opens.left p ∙ uses.others.left p i;
+        got = λ p o. writes.got p o ∙ got p ∙ uses.got p;
+        faults = λ p i o. writes.faults p o ∙ opens.others.faults p o ∙ uses.others.faults p i;
+        later = λ p. omega (arith, later_of places.Input old read uses.others p, later_of places.Output read mid opens.others p, later_written places.Output mid new writes p);
+      };
+    }

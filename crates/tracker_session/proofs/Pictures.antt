@@ -1,27 +1,25 @@
--- The records of a picture, one after the other.
-use Rattle.std.proofs.Common.{◌≡◌, ◌∙◌, ap, ℕ, ◌+◌, ◌<◌, List, [], ◌∷◌, ◌++◌, length, take, get_or, arith, length-take, add-zero, refl}
-use Rattle.std.specs.Prelude.{map, pos}
-use Rattle.std.specs.List.{enumerate_from}
-use Rattle.std.proofs.lemmas.List.{map_push, take_more}
-use Rattle.tracker_session.specs.declared.report.Position.{Position}
-use Rattle.tracker_session.specs.Picture.{track_record, track_records}
+-- The records of plots, one after the other.
+use Rattle.std.proofs.Common.{◌≡◌, ◌∙◌, ap, sym, refl, ℕ, ◌+◌, ◌<◌, List, [], ◌∷◌, ◌++◌, length, take, get_or, true, false, append-nil}
+use Rattle.std.specs.Prelude.{map, filter}
+use Rattle.std.proofs.lemmas.List.{map-append, take_more}
+use Rattle.std.proofs.lemmas.List.Elements.{filter-append}
+use Rattle.plot_geometry.specs.declared.plots.PlanePlot.{PlanePlot}
+use Rattle.admission_log.specs.declared.settings.Settings.{Settings}
+use Rattle.tracker_session.specs.Picture.{is_shown, track_record, track_records}
 
-enumerate_push : {A : Type 0} (n : ℕ) (xs : List A) (x : A) → enumerate_from n (xs ++ x ∷ []) ≡ enumerate_from n xs ++ (n + length xs, x) ∷ []
-enumerate_push n [] x = rw add-zero refl
-enumerate_push n (y ∷ ys) x =
-    let place : n + 1 + length ys ≡ n + length (y ∷ ys) = omega arith in
-    ap (λ t. (n, y) ∷ t) (enumerate_push (n + 1) ys x ∙ ap (λ m. enumerate_from (n + 1) ys ++ (m, x) ∷ []) place)
+tracks_push : (settings : Settings) (time : ℕ) (ps : List PlanePlot) (p : PlanePlot) → track_records settings time (ps ++ p ∷ []) ≡ track_records settings time ps ++ track_records settings time (p ∷ [])
+tracks_push settings time ps p = ap (map (track_record settings time)) (filter-append is_shown ps (p ∷ [])) ∙ map-append (track_record settings time) (filter is_shown ps) (filter is_shown (p ∷ []))
 
--- a position that is never read
-abbrev pub nowhere : Position
-nowhere = record { x = pos 0; y = pos 0 }
+more_plots : (settings : Settings) (time : ℕ) (ps : List PlanePlot) (i : ℕ) (p : PlanePlot) → i < length ps → p ≡ get_or ps i p → track_records settings time (take (i + 1) ps) ≡ track_records settings time (take i ps) ++ track_records settings time (p ∷ [])
+more_plots settings time ps i p lt here =
+    ap (track_records settings time) (take_more ps i p lt ∙ ap (λ x. take i ps ++ x ∷ []) (sym here)) ∙ tracks_push settings time (take i ps) p
 
-tracks_push : (time : ℕ) (ps : List Position) (p : Position) → track_records time (ps ++ p ∷ []) ≡ track_records time ps ++ track_record time (length ps + 1) p ∷ []
-tracks_push time ps p =
-    let number : 1 + length ps ≡ length ps + 1 = omega arith in
-    ap (map (λ at. track_record time at.0 at.1)) (enumerate_push 1 ps p) ∙ map_push (λ at. track_record time at.0 at.1) (enumerate_from 1 ps) (1 + length ps, p) ∙ ap (λ m. track_records time ps ++ track_record time m p ∷ []) number
+pub tracks_shown : (settings : Settings) (time : ℕ) (ps : List PlanePlot) (i : ℕ) (p : PlanePlot) → i < length ps → p ≡ get_or ps i p → is_shown p ≡ true → track_records settings time (take (i + 1) ps) ≡ track_records settings time (take i ps) ++ track_record settings time p ∷ []
+tracks_shown settings time ps i p lt here shown =
+    let one : filter is_shown (p ∷ []) ≡ p ∷ [] = rw shown refl in
+    more_plots settings time ps i p lt here ∙ ap (λ t. track_records settings time (take i ps) ++ map (track_record settings time) t) one
 
-pub tracks_more : (time : ℕ) (ps : List Position) (i : ℕ) → i < length ps → track_records time (take (i + 1) ps) ≡ track_records time (take i ps) ++ track_record time (i + 1) (get_or ps i nowhere) ∷ []
-tracks_more time ps i lt =
-    let many : length (take i ps) ≡ i = omega (arith, length-take i ps) in
-    ap (track_records time) (take_more ps i nowhere lt) ∙ tracks_push time (take i ps) (get_or ps i nowhere) ∙ ap (λ n. track_records time (take i ps) ++ track_record time (n + 1) (get_or ps i nowhere) ∷ []) many
+pub tracks_hidden : (settings : Settings) (time : ℕ) (ps : List PlanePlot) (i : ℕ) (p : PlanePlot) → i < length ps → p ≡ get_or ps i p → is_shown p ≡ false → track_records settings time (take (i + 1) ps) ≡ track_records settings time (take i ps)
+tracks_hidden settings time ps i p lt here hidden =
+    let none : filter is_shown (p ∷ []) ≡ [] = rw hidden refl in
+    more_plots settings time ps i p lt here ∙ ap (λ t. track_records settings time (take i ps) ++ map (track_record settings time) t) none ∙ append-nil (track_records settings time (take i ps))

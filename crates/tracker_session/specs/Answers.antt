@@ -1,42 +1,49 @@
 -- What the answer of a replay says.
-use Rattle.std.specs.Prelude.{◌≡◌, ℕ, List}
+use Rattle.std.specs.Prelude.{◌≡◌, ⊤, ℕ, List, Option, Some, None, Result, Ok, Err}
 use Rattle.io_traits.specs.Host.{HostState}
 use Rattle.io_traits.specs.declared.host.Place.TheVariants as places
+use Rattle.admission_log.specs.declared.settings.Settings as admission
+use Rattle.settings_text.specs.Answers as texts
+use Rattle.tracker_session.specs.declared.screen.Counts.{Counts}
 use Rattle.tracker_session.specs.declared.status.Spot.TheVariants as spots
 use Rattle.tracker_session.specs.declared.status.Status.{Status}
-use Rattle.tracker_session.specs.declared.status.Status.TheVariants.{Done, Usage, Input, Read, Write, Memory, NotBuilt}
-use Rattle.tracker_session.specs.Places.{OutputGot, OutputGotFront, OutputFailed}
+use Rattle.tracker_session.specs.declared.status.Status.TheVariants.{Done, Usage, Settings, Input, Read, Write, Memory}
+use Rattle.tracker_session.specs.Places.{Has, Got, GotFront, HasFailed}
 use Rattle.tracker_session.specs.Replay.{Replays}
 
--- the answers that a replay has of itself
-abbrev pub IsAnswer : Status → Type 0
-IsAnswer Done = Unit {0}
-IsAnswer (Input offset) = Unit {0}
-IsAnswer (NotBuilt item) = Unit {0}
-IsAnswer Usage = ⊥
-IsAnswer (Read spot) = ⊥
-IsAnswer (Write spot) = ⊥
-IsAnswer Memory = ⊥
+-- the answer of a replay of itself: its counts, or its fault
+abbrev pub IsAnswer : Result Counts Status → Type 0
+IsAnswer (Ok counts) = Unit {0}
+IsAnswer (Err (Input offset)) = Unit {0}
+IsAnswer (Err _) = ⊥
 
--- The answer is what the replay of these octets gives, and Output got its output.
-abbrev pub Replayed : List ℕ → Status → HostState → HostState → Type 0
-Replayed octets status old new = (output : List ℕ) × Replays octets output status × OutputGot old new output
+-- Output got the output of the replay of these octets, which has these counts and this fault.
+abbrev pub Replayed : admission.Settings → List ℕ → Counts → Option ℕ → HostState → HostState → Type 0
+Replayed settings octets counts fault old new = (output : List ℕ) × Replays settings octets output counts fault × Got places.Output old new output
+
+-- the same, of what is answered
+abbrev pub Answered : admission.Settings → List ℕ → Result Counts Status → HostState → HostState → Type 0
+Answered settings octets (Ok counts) old new = Replayed settings octets counts None old new
+Answered settings octets (Err (Input offset)) old new = (counts : Counts) × Replayed settings octets counts (Some offset) old new
+Answered settings octets (Err _) old new = ⊤
 
 -- Output got a front of what the replay of these octets gives.
-abbrev pub ReplayedFront : List ℕ → HostState → HostState → Type 0
-ReplayedFront octets old new = (output : List ℕ) (status : Status) → Replays octets output status → OutputGotFront old new output
+abbrev pub ReplayedFront : admission.Settings → List ℕ → HostState → HostState → Type 0
+ReplayedFront settings octets old new = (output : List ℕ) (counts : Counts) (fault : Option ℕ) → Replays settings octets output counts fault → GotFront places.Output old new output
 
--- The replay came to an end, and Output didn't fail.
-pub record Ended (octets : List ℕ) (status : Status) (old new : HostState) : Type 0 where
-  pub replayed : Replayed octets status old new
-  pub faults : new.faults places.Output ≡ old.faults places.Output
+-- why a replay under settings broke off, if not for its input
+abbrev pub BreaksOff : Result Counts Status → HostState → HostState → Type 0
+BreaksOff (Ok counts) old new = ⊤
+BreaksOff (Err (Input offset)) old new = ⊤
+BreaksOff (Err (Read spot)) old new = (spot ≡ spots.Input) × HasFailed places.Input old new
+BreaksOff (Err (Write spot)) old new = (spot ≡ spots.Output) × HasFailed places.Output old new
+BreaksOff (Err Memory) old new = ⊤
+BreaksOff (Err _) old new = ⊥
 
--- Output may break off the replay, or want of memory; else it ends as it must.
-abbrev pub Answers : List ℕ → Status → HostState → HostState → Type 0
-Answers octets (Write spot) old new = (spot ≡ spots.Output) × OutputFailed old new
-Answers octets Memory old new = Unit {0}
-Answers octets Usage old new = ⊥
-Answers octets (Read spot) old new = ⊥
-Answers octets Done old new = Ended octets Done old new
-Answers octets (Input offset) old new = Ended octets (Input offset) old new
-Answers octets (NotBuilt item) old new = Ended octets (NotBuilt item) old new
+-- .. where only writing could break it off
+abbrev pub WritingBreaksOff : Result Counts Status → HostState → HostState → Type 0
+WritingBreaksOff (Ok counts) old new = ⊤
+WritingBreaksOff (Err (Input offset)) old new = ⊤
+WritingBreaksOff (Err (Write spot)) old new = (spot ≡ spots.Output) × HasFailed places.Output old new
+WritingBreaksOff (Err Memory) old new = ⊤
+WritingBreaksOff (Err _) old new = ⊥

@@ -1,5 +1,5 @@
--- What the steps of a replay do to Input and Output.
-use Rattle.std.specs.Prelude.{◌≡◌, ◌≢◌, ◌≤◌, ◌⊎◌, ℕ, List, length, take, Option, Some, None}
+-- What the steps of a replay do to the places.
+use Rattle.std.specs.Prelude.{◌≡◌, ◌≢◌, ◌≤◌, ◌⊎◌, ⊤, ℕ, List, length, take, Option, Some, None}
 use Rattle.std.specs.Io.KnownBytes.{Appends, Consumes}
 use Rattle.io_traits.specs.Faults.{Rose}
 use Rattle.io_traits.specs.Host.{HostState, IsEmpty, ChangesOnly}
@@ -7,45 +7,50 @@ use Rattle.io_traits.specs.declared.host.Place.{Place}
 use Rattle.io_traits.specs.declared.host.Place.TheVariants as places
 use Rattle.io_traits.specs.declared.host.Way.{Way}
 use Rattle.io_traits.specs.declared.host.Way.TheVariants as ways
+use Rattle.tracker_session.specs.declared.status.Spot.{Spot}
 use Rattle.tracker_session.specs.declared.status.Spot.TheVariants as spots
 use Rattle.tracker_session.specs.declared.status.Status.{Status}
-use Rattle.tracker_session.specs.declared.status.Status.TheVariants.{Done, Usage, Input, Read, Write, Memory, NotBuilt}
+use Rattle.tracker_session.specs.declared.status.Status.TheVariants.{Done, Usage, Settings, Input, Read, Write, Memory}
 use Rattle.tracker_session.specs.Inputs.{limit}
 
 -- a front of these octets was appended
 abbrev pub AppendsFront : Option (List ℕ) → Option (List ℕ) → List ℕ → Type 0
 AppendsFront got got' octets = (n : ℕ) × (n ≤ length octets) × Appends got got' (take n octets)
 
--- Input has these octets, where the host tells them
-abbrev pub InputHas : HostState → List ℕ → Type 0
-InputHas host octets = host.left places.Input ≡ Some octets
+-- the place has these octets left, where the host tells them
+abbrev pub Has : Place → HostState → List ℕ → Type 0
+Has place host octets = host.left place ≡ Some octets
 
--- Output got exactly these octets; or a front of them
-abbrev pub OutputGot : HostState → HostState → List ℕ → Type 0
-OutputGot old new octets = Appends (old.got places.Output) (new.got places.Output) octets
+-- the place got exactly these octets; or a front of them
+abbrev pub Got : Place → HostState → HostState → List ℕ → Type 0
+Got place old new octets = Appends (old.got place) (new.got place) octets
 
-abbrev pub OutputGotFront : HostState → HostState → List ℕ → Type 0
-OutputGotFront old new octets = AppendsFront (old.got places.Output) (new.got places.Output) octets
+abbrev pub GotFront : Place → HostState → HostState → List ℕ → Type 0
+GotFront place old new octets = AppendsFront (old.got place) (new.got place) octets
 
--- Input has failed; Output has
-abbrev pub InputFailed : HostState → HostState → Type 0
-InputFailed old new = Rose (old.faults places.Input) (new.faults places.Input)
-
-abbrev pub OutputFailed : HostState → HostState → Type 0
-OutputFailed old new = Rose (old.faults places.Output) (new.faults places.Output)
+-- the place has failed
+abbrev pub HasFailed : Place → HostState → HostState → Type 0
+HasFailed place old new = Rose (old.faults place) (new.faults place)
 
 -- the place has no binding, or this one
 abbrev pub BoundAtMost : Option (Way × List ℕ) → Way → List ℕ → Type 0
 BoundAtMost binding way name = (binding ≡ None) ⊎ (binding ≡ Some (way, name))
 
--- nothing changed but Input, and that got nothing
-pub record UsesInput (old new : HostState) : Type 0 where
-  pub others : ChangesOnly places.Input old new
+abbrev pub spot_of : Place → Spot
+spot_of places.Settings = spots.Settings
+spot_of places.Input = spots.Input
+spot_of places.Output = spots.Output
+spot_of places.Prices = spots.Prices
+spot_of places.Screen = spots.Screen
+
+-- nothing changed but this place, and that got nothing
+pub record UsesRead (place : Place) (old new : HostState) : Type 0 where
+  pub others : ChangesOnly place old new
   pub got : (p : Place) → new.got p ≡ old.got p
 
--- nothing changed but Output, and of that nothing was read
-pub record UsesOutput (old new : HostState) : Type 0 where
-  pub others : ChangesOnly places.Output old new
+-- nothing changed but this place, and of that nothing was read
+pub record UsesWrite (place : Place) (old new : HostState) : Type 0 where
+  pub others : ChangesOnly place old new
   pub left : (p : Place) → new.left p ≡ old.left p
 
 -- Nothing changed but Input and Output; Input got nothing, and of Output nothing was read.
@@ -56,28 +61,32 @@ pub record UsesInputAndOutput (old new : HostState) : Type 0 where
   pub faults : (p : Place) → p ≢ places.Input → p ≢ places.Output → new.faults p ≡ old.faults p
   pub later : (p : Place) → old.faults p ≤ new.faults p
 
+-- Nothing changed but Settings, Input, Output and Screen: Settings and Input were only read, Output and Screen only written.
+pub record UsesFour (old new : HostState) : Type 0 where
+  pub bound : (p : Place) → p ≢ places.Settings → p ≢ places.Input → p ≢ places.Output → new.bound p ≡ old.bound p
+  pub left : (p : Place) → p ≢ places.Settings → p ≢ places.Input → new.left p ≡ old.left p
+  pub got : (p : Place) → p ≢ places.Output → p ≢ places.Screen → new.got p ≡ old.got p
+  pub prices : new.faults places.Prices ≡ old.faults places.Prices
+  pub later : (p : Place) → old.faults p ≤ new.faults p
+
 -- Input and Output are bound, each to its name, and no place failed.
 pub record IsFaultless (input output : List ℕ) (old new : HostState) : Type 0 where
   pub input_bound : new.bound places.Input ≡ Some (ways.Read, input)
   pub output_bound : new.bound places.Output ≡ Some (ways.Write, output)
   pub faults : (p : Place) → new.faults p ≡ old.faults p
 
--- Input was bound to the name, and these octets were read of it: all that it had, unless they pass the limit.
-pub record InputRead (octets name : List ℕ) (old new : HostState) : Type 0 where
-  pub bound : new.bound places.Input ≡ Some (ways.Read, name)
-  pub taken : Consumes (old.left places.Input) (new.left places.Input) octets
-  pub whole : length octets ≤ limit → IsEmpty (new.left places.Input)
-  pub faults : new.faults places.Input ≡ old.faults places.Input
+-- The place was bound to the name, and these octets were read of it: all that it had, unless they pass the limit.
+pub record PlaceRead (place : Place) (octets name : List ℕ) (old new : HostState) : Type 0 where
+  pub bound : new.bound place ≡ Some (ways.Read, name)
+  pub taken : Consumes (old.left place) (new.left place) octets
+  pub whole : length octets ≤ limit → IsEmpty (new.left place)
+  pub faults : new.faults place ≡ old.faults place
 
 -- the status of a reading that broke off
-abbrev pub StopsReading : Status → HostState → HostState → Type 0
-StopsReading (Read spot) old new = (spot ≡ spots.Input) × InputFailed old new
-StopsReading Memory old new = Unit {0}
-StopsReading Done old new = ⊥
-StopsReading Usage old new = ⊥
-StopsReading (Input offset) old new = ⊥
-StopsReading (Write spot) old new = ⊥
-StopsReading (NotBuilt item) old new = ⊥
+abbrev pub StopsReading : Place → Status → HostState → HostState → Type 0
+StopsReading place (Read spot) old new = (spot ≡ spot_of place) × HasFailed place old new
+StopsReading place Memory old new = ⊤
+StopsReading place _ old new = ⊥
 
 -- Output was bound to the name.
 pub record OutputBound (name : List ℕ) (old new : HostState) : Type 0 where
@@ -86,10 +95,6 @@ pub record OutputBound (name : List ℕ) (old new : HostState) : Type 0 where
 
 -- the status of a writing that broke off
 abbrev pub StopsWriting : Status → HostState → HostState → Type 0
-StopsWriting (Write spot) old new = (spot ≡ spots.Output) × OutputFailed old new
-StopsWriting Memory old new = Unit {0}
-StopsWriting Done old new = ⊥
-StopsWriting Usage old new = ⊥
-StopsWriting (Input offset) old new = ⊥
-StopsWriting (Read spot) old new = ⊥
-StopsWriting (NotBuilt item) old new = ⊥
+StopsWriting (Write spot) old new = (spot ≡ spots.Output) × HasFailed places.Output old new
+StopsWriting Memory old new = ⊤
+StopsWriting _ old new = ⊥

@@ -1,117 +1,88 @@
 -- How far a replay has come, and what its steps do.
-use Rattle.std.specs.Prelude.{◌≡◌, ◌⊎◌, ℕ, List, [], ◌∷◌, ◌++◌, length, map, Option, Some, None}
-use Rattle.std.specs.List.{AllByRecursion}
+use Rattle.std.specs.Prelude.{◌≡◌, ◌⊎◌, ⊤, ℕ, List, [], ◌∷◌, ◌++◌, map, Option, Some, None, Result, Ok, Err}
 use Rattle.io_traits.specs.Host.{HostState}
 use Rattle.io_traits.specs.declared.host.Place.TheVariants as places
-use Rattle.tracker_session.specs.declared.batch.Picture.{Picture}
-use Rattle.tracker_session.specs.declared.report.Position.{Position}
-use Rattle.tracker_session.specs.declared.status.Status.{Status}
-use Rattle.tracker_session.specs.declared.status.Status.TheVariants.{Done, Input, NotBuilt}
-use Rattle.tracker_session.specs.Datagram.{Report, IsBuilt}
-use Rattle.tracker_session.specs.Picture.{AreBlocksOf, positions_of, track_records}
-use Rattle.tracker_session.specs.Places.{OutputGot, OutputGotFront}
-use Rattle.recording.specs.Items.{Item, datagram, tick}
-use Rattle.tracker_session.specs.Replay.{Built, item_as, IsBuiltItem, all_reports, last_of, Gives, IsOutput}
+use Rattle.recording.specs.Items.{Item}
+use Rattle.admission_log.specs.declared.settings.Settings.{Settings}
+use Rattle.admission_log.specs.Histories.{History}
+use Rattle.tracker_session.specs.declared.replay.Run.{Run}
+use Rattle.tracker_session.specs.declared.screen.Counts.{Counts}
+use Rattle.tracker_session.specs.Picture.{IsEdition}
+use Rattle.tracker_session.specs.Places.{Got, GotFront}
+use Rattle.tracker_session.specs.Replay.{Taken, item_as, IsTaken, AreTaken, Gives, IsOutput, log_with, log_of, counts_of, empty_log}
 
--- The picture is that of these items behind the start.
-pub record StandsFor (picture : Picture) (start : ℕ) (items : List Built) : Type 0 where
-  pub last : picture.last ≡ last_of start items
-  pub positions : picture.positions.items ≡ positions_of (all_reports items)
+-- The run is that of these items behind the start.
+pub record StandsFor (run : Run) (settings : Settings) (start : ℕ) (items : List Taken) : Type 0 where
+  pub log : run.log ≡ log_of settings (empty_log start) items
+  pub counts : run.counts ≡ counts_of (log_of settings (empty_log start) items) items
 
--- Output got the edition of a time for these positions.
-pub record WritesEdition (time : ℕ) (positions : List Position) (old new : HostState) : Type 0 where
+-- The item was taken so: the log and the counts have it.
+pub record HasTaken (settings : Settings) (item : Item) (taken : Taken) (old new : Run) : Type 0 where
+  pub is : item_as taken ≡ item
+  pub fits : IsTaken old.log taken
+  pub log : new.log ≡ log_with settings old.log taken
+  pub counts : (items : List Taken) → old.counts ≡ counts_of old.log items → new.counts ≡ counts_of new.log (items ++ taken ∷ [])
+
+-- .. in some way that gives nothing
+pub record TakesSilently (settings : Settings) (item : Item) (old new : Run) : Type 0 where
+  pub taken : Taken
+  pub has : HasTaken settings item taken old new
+  pub gives : Gives settings old.log taken []
+
+-- Output got the edition of a log at a time; or nothing, or a front of that edition.
+pub record WritesEdition (settings : Settings) (log : History) (time : ℕ) (old new : HostState) : Type 0 where
   pub octets : List ℕ
-  pub blocks : AreBlocksOf (track_records time positions) octets
-  pub got : OutputGot old new octets
+  pub edition : IsEdition settings log time octets
+  pub got : Got places.Output old new octets
 
--- It got nothing, or a front of that edition.
-pub record BreaksInEdition (time : ℕ) (positions : List Position) (old new : HostState) : Type 0 where
+pub record BreaksInEdition (settings : Settings) (log : History) (time : ℕ) (old new : HostState) : Type 0 where
   pub octets : List ℕ
-  pub blocks : AreBlocksOf (track_records time positions) octets
-  pub got : OutputGotFront old new octets
+  pub edition : IsEdition settings log time octets
+  pub got : GotFront places.Output old new octets
 
-abbrev pub BreaksEdition : ℕ → List Position → HostState → HostState → Type 0
-BreaksEdition time positions old new = (new.got places.Output ≡ old.got places.Output) ⊎ BreaksInEdition time positions old new
+abbrev pub BreaksEdition : Settings → History → ℕ → HostState → HostState → Type 0
+BreaksEdition settings log time old new = (new.got places.Output ≡ old.got places.Output) ⊎ BreaksInEdition settings log time old new
 
--- The item is built so, and gives this piece, whatever the items before it for which the picture stands.
-pub record IsStep (item : Item) (picture : Picture) (built : Built) (piece : List ℕ) : Type 0 where
-  pub is : item_as built ≡ item
-  pub fits : IsBuiltItem built
-  pub gives : (start : ℕ) (before : List Built) → StandsFor picture start before → Gives start before built piece
-
--- The item was taken: Output got its piece, and the picture stands for it too.
-pub record Takes (item : Item) (picture picture' : Picture) (old new : HostState) : Type 0 where
-  pub built : Built
+-- The item was taken, and Output got its piece.
+pub record Takes (settings : Settings) (item : Item) (run run' : Run) (old new : HostState) : Type 0 where
+  pub taken : Taken
+  pub has : HasTaken settings item taken run run'
   pub piece : List ℕ
-  pub step : IsStep item picture built piece
-  pub got : OutputGot old new piece
-  pub stands : (start : ℕ) (before : List Built) → StandsFor picture start before → StandsFor picture' start (before ++ built ∷ [])
+  pub gives : Gives settings run.log taken piece
+  pub got : Got places.Output old new piece
 
 -- Writing broke off in the item's piece, or before it.
-pub record BreaksIn (item : Item) (picture : Picture) (old new : HostState) : Type 0 where
-  pub built : Built
+pub record BreaksIn (settings : Settings) (item : Item) (run : Run) (old new : HostState) : Type 0 where
+  pub taken : Taken
+  pub is : item_as taken ≡ item
+  pub fits : IsTaken run.log taken
   pub piece : List ℕ
-  pub step : IsStep item picture built piece
-  pub got : OutputGotFront old new piece
+  pub gives : Gives settings run.log taken piece
+  pub got : GotFront places.Output old new piece
 
-abbrev pub Breaks : Item → Picture → HostState → HostState → Type 0
-Breaks item picture old new = (new.got places.Output ≡ old.got places.Output) ⊎ BreaksIn item picture old new
-
--- no datagram that is built
-abbrev pub IsNotBuilt : Item → Type 0
-IsNotBuilt (tick time) = ⊥
-IsNotBuilt (datagram feed octets) = (rs : List Report) → IsBuilt octets rs → ⊥
-
--- They begin with a datagram that isn't built.
-pub record BeginsNotBuilt (items : List Item) : Type 0 where
-  pub item : Item
-  pub next : List Item
-  pub other : IsNotBuilt item
-  pub whole : items ≡ item ∷ next
+abbrev pub Breaks : Settings → Item → Run → HostState → HostState → Type 0
+Breaks settings item run old new = (new.got places.Output ≡ old.got places.Output) ⊎ BreaksIn settings item run old new
 
 -- Of the items these were taken, and the rest is left; Output got their output.
-pub record HasTaken (items : List Item) (start : ℕ) (built : List Built) (rest : List Item) (old new : HostState) : Type 0 where
-  pub fit : AllByRecursion IsBuiltItem built
-  pub parts : items ≡ map item_as built ++ rest
+pub record Come (settings : Settings) (items : List Item) (start : ℕ) (taken : List Taken) (rest : List Item) (old new : HostState) : Type 0 where
+  pub fit : AreTaken settings (empty_log start) taken
+  pub parts : items ≡ map item_as taken ++ rest
   pub out : List ℕ
-  pub output : IsOutput start built out
-  pub got : OutputGot old new out
+  pub output : IsOutput settings (empty_log start) taken out
+  pub got : Got places.Output old new out
 
--- what stands behind the items that were taken: nothing, or the datagram with that number, which isn't built
-abbrev pub EndsAs : Option ℕ → ℕ → List Item → Type 0
-EndsAs None built rest = rest ≡ []
-EndsAs (Some number) built rest = (number ≡ built) × BeginsNotBuilt rest
+-- All items were taken, with these counts.
+pub record Ends (settings : Settings) (items : List Item) (start : ℕ) (counts : Counts) (old new : HostState) : Type 0 where
+  pub taken : List Taken
+  pub come : Come settings items start taken [] old new
+  pub counts_are : counts ≡ counts_of (log_of settings (empty_log start) taken) taken
 
--- The items were taken to this end.
-pub record Ends (items : List Item) (start : ℕ) (not_built : Option ℕ) (old new : HostState) : Type 0 where
-  pub built : List Built
+-- Taking them broke off behind some, in the piece of the next or before it: what Output got is a front of the output of those.
+pub record Stopped (settings : Settings) (items : List Item) (start : ℕ) (old new : HostState) : Type 0 where
+  pub taken : List Taken
   pub rest : List Item
-  pub taken : HasTaken items start built rest old new
-  pub ends : EndsAs not_built (length built) rest
-
--- Taking them broke off behind some, in the piece of the next or before it.
-pub record BrokeOff (items : List Item) (start : ℕ) (old new : HostState) : Type 0 where
-  pub built : List Built
-  pub next : Built
-  pub rest : List Item
-  pub mid : HostState
-  pub taken : HasTaken items start built (item_as next ∷ rest) old mid
-  pub fits : IsBuiltItem next
-  pub piece : List ℕ
-  pub gives : Gives start built next piece
-  pub got : OutputGotFront mid new piece
-
--- Output got the output of some items, of those that were taken.
-pub record StoppedBehind (items : List Item) (start : ℕ) (old new : HostState) : Type 0 where
-  pub built : List Built
-  pub rest : List Item
-  pub taken : HasTaken items start built rest old new
-
-abbrev pub Stopped : List Item → ℕ → HostState → HostState → Type 0
-Stopped items start old new = StoppedBehind items start old new ⊎ BrokeOff items start old new
-
--- the answer where the items ended so, with a fault behind them or none
-abbrev pub status_at : Option ℕ → Option ℕ → Status
-status_at (Some number) fault = NotBuilt number
-status_at None (Some offset) = Input offset
-status_at None None = Done
+  pub fit : AreTaken settings (empty_log start) taken
+  pub parts : items ≡ map item_as taken ++ rest
+  pub out : List ℕ
+  pub output : IsOutput settings (empty_log start) taken out
+  pub got : GotFront places.Output old new out

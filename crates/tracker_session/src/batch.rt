@@ -1,278 +1,200 @@
-// The commands, step by step.
-ghost use Rattle.std.specs.Prelude.{◌≡◌, ◌≢◌, ◌<◌, ◌≤◌, ◌^◌, ◌∷◌, [], ℕ, List, length, vec_len, true, false, Ok, Option, None, Some, string_bytes, IfOk, IfErr, IfSome, IfNone, OnOk, OnErr};
-ghost use Rattle.std.specs.List.{AllByRecursion};
-ghost use Rattle.std.specs.Io.KnownBytes.{Appends, Consumes};
+// The commands, in the order of their steps.
+ghost use Rattle.std.specs.Prelude.{◌≡◌, ◌≢◌, ◌≤◌, ◌⊎◌, ℕ, List, length, Option, None, Some, Err, Ok, string_bytes};
+ghost use Rattle.io_traits.specs.Host.{IsEmpty, WritesOnly};
 ghost use Rattle.io_traits.specs.declared.host.Place.{Place};
 ghost use Rattle.io_traits.specs.declared.host.Way.{Way};
-ghost use Rattle.io_traits.specs.Host.{IsBoundFor, IsEmpty, WritesOnly};
-ghost use Rattle.recording.specs.Answers.{item_of, items_of};
-ghost use Rattle.recording.specs.Items.{IsItem};
-ghost use Rattle.tracker_session.specs.Answers.{Answers, IsAnswer, Replayed, ReplayedFront};
-ghost use Rattle.tracker_session.specs.Places.{BoundAtMost, InputHas, InputRead, InputFailed, OutputBound, OutputFailed, IsFaultless, StopsReading, StopsWriting, UsesInput, UsesInputAndOutput, UsesOutput};
-ghost use Rattle.tracker_session.specs.Inputs.{IsRead};
-ghost use Rattle.tracker_session.specs.Replay.{Replays};
-ghost use Rattle.tracker_session.specs.Steps.{Breaks, BreaksEdition, Ends, IsNotBuilt, Stopped, Takes, WritesEdition, status_at};
-ghost use Rattle.tracker_session.specs.Words.{AreReplay, IsReplay, texts};
+ghost use Rattle.admission_log.specs.declared.settings.Settings as Given;
+ghost use Rattle.settings_text.specs.declared.faults.SettingsFault.{SettingsFault};
+ghost use Rattle.settings_text.specs.Answers as documents;
+ghost use Rattle.tracker_session.specs.declared.screen.Counts.{Counts};
 ghost use Rattle.tracker_session.specs.declared.status.Spot.{Spot};
 ghost use Rattle.tracker_session.specs.declared.status.Status.{Status};
+ghost use Rattle.tracker_session.specs.Places.{BoundAtMost, Has, HasFailed, UsesFour};
+ghost use Rattle.tracker_session.specs.Replay.{Replays};
+ghost use Rattle.tracker_session.specs.Answers.{ReplayedFront};
+ghost use Rattle.tracker_session.specs.Runs.{CommandRan, EndsFor, IsUntouched, Ran, RanUnder, RanNothing, UsesThree};
+ghost use Rattle.tracker_session.specs.Screen.{status_line};
+ghost use Rattle.tracker_session.specs.Telling.{CountsTold, Told, ToldAtEnd};
+ghost use Rattle.tracker_session.specs.Ends.{AreBound, DoneUnder, InputUnder, IsEarly, IsEnd, NoFailure, status_at};
+ghost use Rattle.tracker_session.specs.Words.{AreReplay, IsReplay, texts};
 
-use crate::picture::{TRACK_LIMIT, edition};
-use crate::report::{Position, take_reports};
+use crate::reading::{judge, open_output, read_place};
+use crate::replay::replay;
+use crate::screen::{Counts, counts_line, status_line};
 use crate::status::{Spot, Status};
-use crate::streams::{LIMIT, ReadError, read_all, write_all};
-use crate::words::replay_names;
-use io_traits::{Failed, Host, Place, Way};
-use recording::{Item, Reading, read_front, read_recording};
+use crate::streams::{LIMIT, write_all};
+use crate::words::{Command, WordsError, parse_words};
+use admission_log::Settings;
+use io_traits::{Failed, Host, Place};
 use std::alloc::Global;
-use trk_base::NoMemory;
 
-// Binds Input, and reads it to its end or past the limit.
-fn read_input<H: Host>(alloc: Global, name: &str, host: &mut H) -> Result<Vec<u8>, Status>
-    requires { (H.state host.old).bound Place.Input ≡ None }
-    ensures read { IfOk result (λ v. InputRead v.items name.now (H.state host.old) (H.state host.new)) }
-    ensures stops { IfErr result (λ s. StopsReading s (H.state host.old) (H.state host.new)) }
-    ensures bound { BoundAtMost ((H.state host.new).bound Place.Input) Way.Read name.now }
-    ensures uses { UsesInput (H.state host.old) (H.state host.new) }
-{
-    let Ok(name) = String::from_str(alloc, name) else {
-        return Err(Status::Memory);
-    };
-    let Ok(()) = host.bind(Place::Input, Way::Read, name) else {
-        return Err(Status::Read(Spot::Input));
-    };
-    match read_all(alloc, host, Place::Input) {
-        Ok(octets) => Ok(octets),
-        Err(ReadError::Failed) => Err(Status::Read(Spot::Input)),
-        Err(ReadError::NoMemory) => Err(Status::Memory),
-    }
-}
+/// The line of want of memory, which needs no memory itself.
+const NO_MEMORY: &[u8] = b"no memory\n";
 
-// Binds Output.
-fn open_output<H: Host>(alloc: Global, name: &str, host: &mut H) -> Result<(), Status>
-    requires { (H.state host.old).bound Place.Output ≡ None }
-    ensures ok { OnOk result (OutputBound name.now (H.state host.old) (H.state host.new)) }
-    ensures stops { IfErr result (λ s. StopsWriting s (H.state host.old) (H.state host.new)) }
-    ensures bound { BoundAtMost ((H.state host.new).bound Place.Output) Way.Write name.now }
-    ensures got { (p : Place) → (H.state host.new).got p ≡ (H.state host.old).got p }
-    ensures uses { UsesOutput (H.state host.old) (H.state host.new) }
-{
-    let Ok(name) = String::from_str(alloc, name) else {
-        return Err(Status::Memory);
-    };
-    match host.bind(Place::Output, Way::Write, name) {
-        Ok(()) => Ok(()),
-        Err(Failed) => Err(Status::Write(Spot::Output)),
-    }
-}
+/// The line of a screen that failed.
+const SCREEN_FAILED: &[u8] = b"write: Screen\n";
 
-/// The picture so far.
-#[derive(Drop)]
-struct Picture {
-    /// The last tick, or the start of the recording.
-    last: u64,
-    /// Where the plots lie, at most as many as an edition has tracks.
-    positions: Vec<Position>,
-}
-
-// Writes the edition of a time to Output.
-fn write_edition<H: Host>(
+// Binds Input and reads it, binds Output, and takes the items.
+fn replay_under<H: Host>(
     alloc: Global,
-    time: u64,
-    positions: &[Position],
+    settings: &Settings,
+    input: String,
+    output: String,
     host: &mut H,
-) -> Result<(), Status>
-    requires room { length positions.now ≤ TRACK_LIMIT }
-    requires bound { IsBoundFor Way.Write (H.state host.old) Place.Output }
-    ensures ok { OnOk result (WritesEdition time positions.now (H.state host.old) (H.state host.new)) }
-    ensures kept { OnOk result ((H.state host.new).faults Place.Output ≡ (H.state host.old).faults Place.Output) }
-    ensures stops { IfErr result (λ s. StopsWriting s (H.state host.old) (H.state host.new)) }
-    ensures front { OnErr result (BreaksEdition time positions.now (H.state host.old) (H.state host.new)) }
-    ensures uses { WritesOnly Place.Output (H.state host.old) (H.state host.new) }
+) -> Result<Counts, Status>
+    requires input { (H.state host.old).bound Place.Input ≡ None }
+    requires output { (H.state host.old).bound Place.Output ≡ None }
+    ensures { RanUnder settings.now (string_bytes input) (string_bytes output) result (H.state host.old) (H.state host.new) }
 {
-    let Ok(datagrams) = edition(alloc, time, positions) else {
-        return Err(Status::Memory);
-    };
-    match write_all(host, Place::Output, &datagrams) {
-        Ok(()) => Ok(()),
-        Err(Failed) => Err(Status::Write(Spot::Output)),
-    }
+    let octets = read_place(alloc, Place::Input, input, host)?;
+    open_output(output, host)?;
+    replay(alloc, settings, &octets, host)
 }
 
-// Takes an item. It is false where that is a datagram that isn't built.
-fn take_item<H: Host>(
+// Binds Settings, reads and judges it, and then replays under it.
+fn run_replay<H: Host>(
     alloc: Global,
-    item: Item<'_>,
-    picture: &mut Picture,
+    settings: String,
+    input: String,
+    output: String,
     host: &mut H,
-) -> Result<bool, Status>
-    requires fits { IsItem (item_of item) }
-    requires room { vec_len picture.old.positions ≤ TRACK_LIMIT }
-    requires bound { IsBoundFor Way.Write (H.state host.old) Place.Output }
-    ensures room { vec_len picture.new.positions ≤ TRACK_LIMIT }
-    ensures taken { result ≡ Ok true → Takes (item_of item.entry) picture.old picture.new (H.state host.old) (H.state host.new) }
-    ensures other { result ≡ Ok false → IsNotBuilt (item_of item.entry) }
-    ensures kept { OnOk result ((H.state host.new).faults Place.Output ≡ (H.state host.old).faults Place.Output) }
-    ensures same { result ≡ Ok false → (H.state host.new).got Place.Output ≡ (H.state host.old).got Place.Output }
-    ensures stops { IfErr result (λ s. StopsWriting s (H.state host.old) (H.state host.new)) }
-    ensures front { OnErr result (Breaks (item_of item.entry) picture.old (H.state host.old) (H.state host.new)) }
-    ensures uses { WritesOnly Place.Output (H.state host.old) (H.state host.new) }
+) -> Result<Counts, Status>
+    requires { (p : Place) → (H.state host.old).bound p ≡ None }
+    ensures { Ran (string_bytes settings) (string_bytes input) (string_bytes output) result (H.state host.old) (H.state host.new) }
 {
-    match item {
-        Item::Datagram { bytes, .. } => match take_reports(alloc, bytes, &mut picture.positions) {
-            Ok(built) => Ok(built),
-            Err(NoMemory) => Err(Status::Memory),
-        },
-        Item::Tick(time) => {
-            if time > picture.last {
-                write_edition(alloc, time, &picture.positions, host)?;
-                picture.last = time;
-            }
-            Ok(true)
+    let octets = read_place(alloc, Place::Settings, settings, host)?;
+    let settings = judge(alloc, &octets)?;
+    replay_under(alloc, &settings, input, output, host)
+}
+
+// Writes the text of a status to Screen. A text that can't be written leaves the status.
+fn tell<H: Host>(alloc: Global, status: Status, host: &mut H) -> Status
+    ensures status { (result ≡ status) ⊎ (result ≡ Status.Memory) }
+    ensures told { Told (status_line result) (H.state host.old) (H.state host.new) }
+    ensures uses { WritesOnly Place.Screen (H.state host.old) (H.state host.new) }
+{
+    match status_line(alloc, &status) {
+        Ok(line) => {
+            let _ = write_all(host, Place::Screen, line.as_bytes());
+            status
+        }
+        Err(_) => {
+            let _ = write_all(host, Place::Screen, NO_MEMORY);
+            Status::Memory
         }
     }
 }
 
-// Takes the items behind the start, to the first datagram that isn't built: its number among them, if there is one.
-fn take_items<H: Host>(
-    alloc: Global,
-    start: u64,
-    items: &[Item<'_>],
-    host: &mut H,
-) -> Result<Option<u64>, Status>
-    requires fits { AllByRecursion IsItem (items_of items.now) }
-    requires bound { IsBoundFor Way.Write (H.state host.old) Place.Output }
-    ensures ended { IfOk result (λ e. Ends (items_of items.now) start e (H.state host.old) (H.state host.new)) }
-    ensures kept { OnOk result ((H.state host.new).faults Place.Output ≡ (H.state host.old).faults Place.Output) }
-    ensures stops { IfErr result (λ s. StopsWriting s (H.state host.old) (H.state host.new)) }
-    ensures front { OnErr result (Stopped (items_of items.now) start (H.state host.old) (H.state host.new)) }
-    ensures uses { WritesOnly Place.Output (H.state host.old) (H.state host.new) }
+// Writes the line of a replay that was done to Screen.
+fn tell_counts<H: Host>(alloc: Global, counts: &Counts, host: &mut H) -> Status
+    ensures told { CountsTold counts.now result (H.state host.old) (H.state host.new) }
+    ensures uses { WritesOnly Place.Screen (H.state host.old) (H.state host.new) }
 {
-    let mut picture = Picture {
-        last: start,
-        positions: Vec::new(alloc),
-    };
-    for (number, item) in items.iter().enumerate() {
-        if !take_item(alloc, *item, &mut picture, host)? {
-            return Ok(Some(number as u64));
-        }
-    }
-    Ok(None)
-}
-
-// The answer where the items ended so, with a fault behind them or none.
-fn answer(not_built: Option<u64>, fault: Option<usize>) -> Status
-    ensures { result ≡ status_at not_built fault }
-{
-    match (not_built, fault) {
-        (Some(item), _) => Status::NotBuilt { item },
-        (None, Some(offset)) => Status::Input { offset },
-        (None, None) => Status::Done,
-    }
-}
-
-// What is read of an input. Of one that passes the limit it is the front up to there.
-fn read_octets(alloc: Global, octets: &[u8]) -> Result<Reading<'_>, NoMemory>
-    ensures read { IfOk result (λ r. IsRead octets.now r.start (items_of r.items.items) r.fault) }
-    ensures fits { IfOk result (λ r. AllByRecursion IsItem (items_of r.items.items)) }
-{
-    if octets.len() > LIMIT {
-        read_front(alloc, &octets[..LIMIT])
-    } else {
-        read_recording(alloc, octets)
-    }
-}
-
-// Output gets what the replay of the octets gives.
-fn replay<H: Host>(alloc: Global, octets: &[u8], host: &mut H) -> Status
-    requires { IsBoundFor Way.Write (H.state host.old) Place.Output }
-    ensures answer { Answers octets.now result (H.state host.old) (H.state host.new) }
-    ensures front { ReplayedFront octets.now (H.state host.old) (H.state host.new) }
-    ensures uses { WritesOnly Place.Output (H.state host.old) (H.state host.new) }
-{
-    let Ok(reading) = read_octets(alloc, octets) else {
+    let Ok(line) = counts_line(alloc, counts) else {
+        let _ = write_all(host, Place::Screen, NO_MEMORY);
         return Status::Memory;
     };
-    match take_items(alloc, reading.start, &reading.items, host) {
-        Ok(not_built) => answer(not_built, reading.fault),
-        Err(status) => status,
+    match write_all(host, Place::Screen, line.as_bytes()) {
+        Ok(()) => Status::Done,
+        Err(Failed) => {
+            let _ = write_all(host, Place::Screen, SCREEN_FAILED);
+            Status::Write(Spot::Screen)
+        }
     }
 }
 
-// The steps of a replay, in their order.
-fn run_replay<H: Host>(alloc: Global, input: &str, output: &str, host: &mut H) -> Status
+// Carries out a command that the words are, but for what Screen gets.
+fn run_command<H: Host>(alloc: Global, command: Command, host: &mut H) -> Result<Counts, Status>
     requires { (p : Place) → (H.state host.old).bound p ≡ None }
-    ensures known { result ≢ Status.Usage }
-    ensures answer { (octets : List ℕ) → InputHas (H.state host.old) octets → IsAnswer result → Replayed octets result (H.state host.old) (H.state host.new) }
-    ensures front { (octets : List ℕ) → InputHas (H.state host.old) octets → ReplayedFront octets (H.state host.old) (H.state host.new) }
-    ensures read { (spot : Spot) → result ≡ Status.Read spot → (spot ≡ Spot.Input) × InputFailed (H.state host.old) (H.state host.new) }
-    ensures write { (spot : Spot) → result ≡ Status.Write spot → (spot ≡ Spot.Output) × OutputFailed (H.state host.old) (H.state host.new) }
-    ensures faultless { IsAnswer result → IsFaultless input.now output.now (H.state host.old) (H.state host.new) }
-    ensures whole { IsAnswer result → (octets : List ℕ) → InputHas (H.state host.old) octets → length octets ≤ LIMIT → IsEmpty ((H.state host.new).left Place.Input) }
-    ensures order { (spot : Spot) → result ≡ Status.Read spot → (H.state host.new).bound Place.Output ≡ None }
-    ensures input { BoundAtMost ((H.state host.new).bound Place.Input) Way.Read input.now }
-    ensures output { BoundAtMost ((H.state host.new).bound Place.Output) Way.Write output.now }
-    ensures uses { UsesInputAndOutput (H.state host.old) (H.state host.new) }
+    ensures { CommandRan command result (H.state host.old) (H.state host.new) }
 {
-    let octets = match read_input(alloc, input, host) {
-        Ok(octets) => octets,
-        Err(status) => return status,
-    };
-    match open_output(alloc, output, host) {
-        Ok(()) => replay(alloc, &octets, host),
-        Err(status) => status,
+    let Command::Replay {
+        settings,
+        input,
+        output,
+        prices: _prices,
+        workers: _workers,
+    } = command;
+    run_replay(alloc, settings, input, output, host)
+}
+
+// Carries out a command, but for what Screen gets.
+fn carry_out<H: Host>(alloc: Global, words: &[String], host: &mut H) -> Result<Counts, Status>
+    requires { (p : Place) → (H.state host.old).bound p ≡ None }
+    ensures ran { (settings input output : List ℕ) → IsReplay (texts words.now) settings input output → Ran settings input output result (H.state host.old) (H.state host.new) }
+    ensures usage { result ≡ Err Status.Usage → AreReplay (texts words.now) → ⊥ }
+    ensures other { (AreReplay (texts words.now) → ⊥) → RanNothing result (H.state host.old) (H.state host.new) }
+    ensures known { (result ≡ Err Status.Usage → ⊥) → (result ≡ Err Status.Memory → ⊥) → AreReplay (texts words.now) }
+    ensures screen { (H.state host.new).got Place.Screen ≡ (H.state host.old).got Place.Screen }
+    ensures screen_faults { (H.state host.new).faults Place.Screen ≡ (H.state host.old).faults Place.Screen }
+    ensures uses { UsesThree (H.state host.old) (H.state host.new) }
+    ensures causes { EndsFor result (H.state host.old) (H.state host.new) }
+{
+    match parse_words(alloc, words) {
+        Ok(command) => run_command(alloc, command, host),
+        Err(WordsError::Usage) => Err(Status::Usage),
+        Err(WordsError::NoMemory) => Err(Status::Memory),
     }
 }
 
 /// Carries out the command that the words are, over places of which none is bound yet.
 ///
-/// The one command is `replay SETTINGS INPUT OUTPUT PRICES`, four names. It reads what Input is
-/// bound to, a recording or data blocks alone, and writes the thin picture of each of its ticks to
-/// Output. Settings and prices are named and left alone, and Screen gets nothing.
+/// The one command is `replay SETTINGS INPUT OUTPUT PRICES`, four names. It reads the settings, and then
+/// what Input is bound to, a recording or data blocks alone. Each datagram is admitted to one log, and each
+/// tick above the last one writes the edition of the log to Output: a record for each plot whose slot is
+/// over. Prices are named and left alone.
 ///
 /// - `Usage` comes exactly for other words.
-/// - `Read` comes where Input couldn't be opened or read, `Write` where Output couldn't be opened or
-///   written, and `Memory` where memory is wanting.
-/// - Else the answer is that of the input: `NotBuilt` at its first datagram that isn't built;
-///   `Input` at its first fault, where no such datagram stands before it; `Done` where it has
-///   neither.
+/// - `Settings` comes exactly where Settings was read, and tells its first fault.
+/// - `Read` comes where Settings or Input couldn't be opened or read, `Write` where Output couldn't be
+///   opened or written or Screen couldn't be written, and `Memory` where memory is wanting.
+/// - `Input` comes at the first fault of the input, and else `Done`.
 ///
-/// What Output got is a front of the editions before that place, and at the last three all of them.
+/// A malformed datagram and an old tick are passed over and counted. Screen gets the line of the counts
+/// where all was done, and else the text of the status; a text that can't be written leaves the status.
 pub fn run_batch<H: Host>(alloc: Global, words: &[String], host: &mut H) -> Status
     requires { (p : Place) → (H.state host.old).bound p ≡ None }
 
-    // Usage comes exactly for words that are no replay, and then nothing was done.
+    // Usage comes exactly for other words, unless memory is wanting; then only Screen was written.
     ensures usage { result ≡ Status.Usage → AreReplay (texts words.now) → ⊥ }
-    ensures untouched { result ≡ Status.Usage → host.new ≡ host.old }
-    ensures words { result ≢ Status.Usage → AreReplay (texts words.now) }
+    ensures other { (AreReplay (texts words.now) → ⊥) → (result ≡ Status.Usage) ⊎ (result ≡ Status.Memory) }
+    ensures usage_uses { result ≡ Status.Usage → WritesOnly Place.Screen (H.state host.old) (H.state host.new) }
 
-    // At these three answers the replay of what Input had gives this answer, and Output got its output.
-    ensures done { result ≡ Status.Done → (octets : List ℕ) → InputHas (H.state host.old) octets → Replayed octets Status.Done (H.state host.old) (H.state host.new) }
-    ensures input { (offset : ℕ) → result ≡ Status.Input offset → (octets : List ℕ) → InputHas (H.state host.old) octets → Replayed octets (Status.Input offset) (H.state host.old) (H.state host.new) }
-    ensures not_built { (item : ℕ) → result ≡ Status.NotBuilt item → (octets : List ℕ) → InputHas (H.state host.old) octets → Replayed octets (Status.NotBuilt item) (H.state host.old) (H.state host.new) }
+    // A fault of the settings is the first one of what Settings had.
+    ensures settings { (fault : SettingsFault) → result ≡ Status.Settings fault → (document : List ℕ) → Has Place.Settings (H.state host.old) document → documents.IsAnswer document (Err fault) }
 
-    // Whatever the answer, Output got a front of that output.
-    ensures front { (octets : List ℕ) → InputHas (H.state host.old) octets → ReplayedFront octets (H.state host.old) (H.state host.new) }
+    // At Done Output got exactly the output of the replay, and Screen the line of its counts; at Input Output got exactly that of the items before the fault.
+    ensures done { result ≡ Status.Done → (document octets : List ℕ) → Has Place.Settings (H.state host.old) document → Has Place.Input (H.state host.old) octets → DoneUnder document octets (H.state host.old) (H.state host.new) }
+    ensures input { (offset : ℕ) → result ≡ Status.Input offset → (document octets : List ℕ) → Has Place.Settings (H.state host.old) document → Has Place.Input (H.state host.old) octets → InputUnder document octets offset (H.state host.old) (H.state host.new) }
 
-    // A fault is told only where that place failed.
-    ensures read { (spot : Spot) → result ≡ Status.Read spot → (spot ≡ Spot.Input) × InputFailed (H.state host.old) (H.state host.new) }
-    ensures write { (spot : Spot) → result ≡ Status.Write spot → (spot ≡ Spot.Output) × OutputFailed (H.state host.old) (H.state host.new) }
+    // At every answer Output got a front of it.
+    ensures front { (document octets : List ℕ) (settings : Given.Settings) → AreReplay (texts words.now) → Has Place.Settings (H.state host.old) document → documents.IsAnswer document (Ok settings) → Has Place.Input (H.state host.old) octets → ReplayedFront settings octets (H.state host.old) (H.state host.new) }
 
-    // Where neither failed and memory isn't wanting, the answer is the replay's.
-    ensures complete { (octets output : List ℕ) (status : Status) → InputHas (H.state host.old) octets → Replays octets output status → AreReplay (texts words.now) → (InputFailed (H.state host.old) (H.state host.new) → ⊥) → (OutputFailed (H.state host.old) (H.state host.new) → ⊥) → result ≢ Status.Memory → result ≡ status }
+    // A place is told only where it failed.
+    ensures read { (spot : Spot) → result ≡ Status.Read spot → ((spot ≡ Spot.Settings) × HasFailed Place.Settings (H.state host.old) (H.state host.new)) ⊎ ((spot ≡ Spot.Input) × HasFailed Place.Input (H.state host.old) (H.state host.new)) }
+    ensures write { (spot : Spot) → result ≡ Status.Write spot → ((spot ≡ Spot.Output) × HasFailed Place.Output (H.state host.old) (H.state host.new)) ⊎ ((spot ≡ Spot.Screen) × HasFailed Place.Screen (H.state host.old) (H.state host.new)) }
 
-    // Input and Output are bound at most once, each to its own word; Output only behind all reading.
-    ensures bound { (input output : List ℕ) → IsReplay (texts words.now) input output → BoundAtMost ((H.state host.new).bound Place.Input) Way.Read input × BoundAtMost ((H.state host.new).bound Place.Output) Way.Write output }
-    ensures order { (spot : Spot) → result ≡ Status.Read spot → (H.state host.new).bound Place.Output ≡ None }
+    // Where no place failed and memory isn't wanting, the answer is that of the settings and of the replay.
+    ensures complete_settings { (document : List ℕ) (fault : SettingsFault) → AreReplay (texts words.now) → Has Place.Settings (H.state host.old) document → documents.IsAnswer document (Err fault) → NoFailure (H.state host.old) (H.state host.new) → result ≢ Status.Memory → result ≡ Status.Settings fault }
+    ensures complete { (document octets output : List ℕ) (settings : Given.Settings) (counts : Counts) (fault : Option ℕ) → AreReplay (texts words.now) → Has Place.Settings (H.state host.old) document → documents.IsAnswer document (Ok settings) → Has Place.Input (H.state host.old) octets → Replays settings octets output counts fault → NoFailure (H.state host.old) (H.state host.new) → result ≢ Status.Memory → result ≡ status_at fault }
 
-    // At the three answers of a replay both are bound, no place has failed, and Input was read to its end, or past the limit.
-    ensures faultless { (input output : List ℕ) → IsReplay (texts words.now) input output → IsAnswer result → IsFaultless input output (H.state host.old) (H.state host.new) }
-    ensures whole { IsAnswer result → (octets : List ℕ) → InputHas (H.state host.old) octets → length octets ≤ LIMIT → IsEmpty ((H.state host.new).left Place.Input) }
+    // Each place is bound at most once, to its own word; Output only behind all reading.
+    ensures bound { (settings input output : List ℕ) → IsReplay (texts words.now) settings input output → BoundAtMost ((H.state host.new).bound Place.Settings) Way.Read settings × BoundAtMost ((H.state host.new).bound Place.Input) Way.Read input × BoundAtMost ((H.state host.new).bound Place.Output) Way.Write output }
+    ensures order { IsEarly result → IsUntouched (H.state host.old) (H.state host.new) }
 
-    // No other place is bound, read or written, Input isn't written, and Output isn't read.
-    ensures uses { UsesInputAndOutput (H.state host.old) (H.state host.new) }
+    // At the two answers of a replay they are bound and read to their end, or past the limit.
+    ensures faultless { (settings input output : List ℕ) → IsReplay (texts words.now) settings input output → IsEnd result → AreBound settings input output (H.state host.old) (H.state host.new) }
+    ensures whole_settings { IsEnd result → (document : List ℕ) → Has Place.Settings (H.state host.old) document → length document ≤ LIMIT → IsEmpty ((H.state host.new).left Place.Settings) }
+    ensures whole { IsEnd result → (octets : List ℕ) → Has Place.Input (H.state host.old) octets → length octets ≤ LIMIT → IsEmpty ((H.state host.new).left Place.Input) }
+
+    // Screen got the line of the counts at Done, and else the text of the status, cut short only where Screen failed.
+    ensures screen { ToldAtEnd result (H.state host.old) (H.state host.new) }
+
+    // No other place is bound, read or written; Settings and Input aren't written, and Output and Screen aren't read.
+    ensures uses { UsesFour (H.state host.old) (H.state host.new) }
 {
-    match replay_names(words) {
-        Some((input, output)) => run_replay(alloc, input, output, host),
-        None => Status::Usage,
+    match carry_out(alloc, words, host) {
+        Ok(counts) => tell_counts(alloc, &counts, host),
+        Err(status) => tell(alloc, status, host),
     }
 }

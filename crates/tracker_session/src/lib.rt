@@ -4,7 +4,10 @@
 mod batch;
 mod laws;
 mod picture;
-mod report;
+mod plots;
+mod reading;
+mod replay;
+mod screen;
 mod status;
 mod streams;
 mod words;
@@ -12,6 +15,7 @@ mod words;
 pub use batch::run_batch;
 pub use laws::{one_reading, one_replay};
 pub use status::{Spot, Status};
+pub use words::{Command, WordsError, parse_words};
 
 #[cfg(test)]
 mod tests;

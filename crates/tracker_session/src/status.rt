@@ -1,5 +1,7 @@
 ghost use Rattle.std.specs.Prelude.{◌≡◌};
 
+use settings_text::SettingsFault;
+
 /// Something outside the program that can fail.
 #[derive(Clone, Copy, Debug, PartialEq, Eq)]
 pub enum Spot {
@@ -22,6 +24,8 @@ pub enum Status {
     Done,
     /// The words are no command.
     Usage,
+    /// The settings have this fault.
+    Settings(SettingsFault),
     /// The input has a fault, and this is its offset.
     Input { offset: usize },
     /// Something couldn't be opened or read.
@@ -30,9 +34,6 @@ pub enum Status {
     Write(Spot),
     /// Memory is wanting.
     Memory,
-    /// The input has a datagram that the thin replay doesn't take, before any fault: its number among
-    /// the items, from 0.
-    NotBuilt { item: u64 },
 }
 
 impl Status {
@@ -45,11 +46,11 @@ impl Status {
         match self {
             Status::Done => 0,
             Status::Usage => 1,
+            Status::Settings(_) => 2,
             Status::Input { .. } => 3,
             Status::Read(_) => 4,
             Status::Write(_) => 5,
             Status::Memory => 6,
-            Status::NotBuilt { .. } => 9,
         }
     }
 }

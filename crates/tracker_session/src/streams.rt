@@ -53,7 +53,7 @@ pub fn read_all<H: Host>(alloc: Global, host: &mut H, place: Place) -> Result<Ve
 
 /// Writes the octets. Where it fails, the place got a front of them.
 pub fn write_all<H: Host>(host: &mut H, place: Place, octets: &[u8]) -> Result<(), Failed>
-    requires { IsBoundFor Way.Write (H.state host.old) place }
+    requires { place ≢ Place.Screen → IsBoundFor Way.Write (H.state host.old) place }
     ensures all { OnOk result (Appends ((H.state host.old).got place) ((H.state host.new).got place) octets.now) }
     ensures front { OnErr result (AppendsFront ((H.state host.old).got place) ((H.state host.new).got place) octets.now) }
     ensures cause { HasCause ((H.state host.old).faults place) ((H.state host.new).faults place) result }

@@ -1,6 +1,7 @@
-use Rattle.std.proofs.Common.{◌≡◌, ◌-◌, ◌≤◌, length, take}
+use Rattle.std.proofs.Common.{◌≡◌, ◌≢◌, ◌-◌, ◌≤◌, length, take}
 use Rattle.std.specs.Io.KnownBytes.{Appends}
 use Rattle.io_traits.specs.Host.{IsBoundFor, WritesOnly}
+use Rattle.io_traits.specs.declared.host.Place.{Place}
 use Rattle.io_traits.specs.declared.host.Way.{Way}
 use Rattle.tracker_session.proofs.streams.write_all.Given as goal
 
@@ -9,7 +10,7 @@ invariant-loop-at g l =
     let state = g.H.Host.state in
     record {
       within : l.at ≤ length l.octets;
-      bound : IsBoundFor Way.Write (state l.host) l.place;
+      bound : l.place ≢ Place.Screen → IsBoundFor Way.Write (state l.host) l.place;
       got_here : Appends ((state l.fn.host).got l.place) ((state l.host).got l.place) (take l.at l.octets);
       faults_here : (state l.host).faults l.place ≡ (state l.fn.host).faults l.place;
       others : WritesOnly l.place (state l.fn.host) (state l.host);

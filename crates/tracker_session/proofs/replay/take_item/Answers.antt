@@ -1,0 +1,40 @@
+use Rattle.std.proofs.Common.{rules, ◌≡◌, ap, sym, subst, List, Result, Ok, Err, Bool, true, false}
+use Rattle.std.specs.Prelude.{OnErr}
+use Rattle.recording.specs.Answers.{item_of}
+use Rattle.recording.specs.Items.{Item, tick}
+use Rattle.tracker_session.specs.Steps.{Breaks, Takes}
+use Rattle.tracker_session.proofs.Stepping.{silently, tick_takes, tick_breaks, last_ticked}
+use Rattle.tracker_session.proofs.replay.take_item.Goals as goal
+
+on_err : {T E P : Type 0} (r : Result T E) → P → OnErr r P
+on_err (Ok v) p = tt
+on_err (Err e) p = p
+
+pub write_edition-requires-clause-last : goal.write_edition-requires-clause-last
+write_edition-requires-clause-last g c =
+    let yes : c.tick.result ≡ Ok true = search rules in
+    last_ticked c.in-Tick.time c.args.run.now c.tick.new.self (c.tick.ensures.taken yes)
+
+pub returns-in_err-write_edition-in-Tick-clause-front : goal.returns-in_err-write_edition-in-Tick-clause-front
+returns-in_err-write_edition-in-Tick-clause-front g c =
+    let state = g.H.Host.state in
+    let yes : c.tick.result ≡ Ok true = search rules in
+    let item = ap item_of c.in-Tick.is in
+    on_err c.from_residual-in_err-write_edition-in-Tick.result (subst (λ (i : Item). Breaks c.args.settings.now i c.args.run.now (state c.args.host.now) (state c.write_edition.new.host)) (sym item)
+    (tick_breaks c.args.settings.now c.in-Tick.time c.args.run.now c.tick.new.self (state c.args.host.now) (state c.write_edition.new.host) (c.tick.ensures.taken yes) c.in_err-write_edition-in-Tick.ensures.front))
+
+pub returns-in_ok-write_edition-in-Tick-clause-taken : goal.returns-in_ok-write_edition-in-Tick-clause-taken
+returns-in_ok-write_edition-in-Tick-clause-taken g c =
+    let state = g.H.Host.state in
+    let yes : c.tick.result ≡ Ok true = search rules in
+    let item = ap item_of c.in-Tick.is in
+    subst (λ (i : Item). Takes c.args.settings.now i c.args.run.now c.tick.new.self (state c.args.host.now) (state c.write_edition.new.host)) (sym item)
+    (tick_takes c.args.settings.now c.in-Tick.time c.args.run.now c.tick.new.self (state c.args.host.now) (state c.write_edition.new.host) (c.tick.ensures.taken yes) c.in_ok-write_edition-in-Tick.ensures.ok)
+
+pub returns-else-branch-clause-taken : goal.returns-else-branch-clause-taken
+returns-else-branch-clause-taken g c =
+    let host = g.H.Host.state c.args.host.now in
+    let no : c.tick.result ≡ Ok false = search rules in
+    let item = ap item_of c.in-Tick.is in
+    subst (λ (i : Item). Takes c.args.settings.now i c.args.run.now c.tick.new.self host host) (sym item)
+    (silently c.args.settings.now (tick c.in-Tick.time) c.args.run.now c.tick.new.self host (c.tick.ensures.old no c.args.settings.now))

@@ -1,0 +1,284 @@
+// The items of a recording, taken one after the other.
+ghost use Rattle.std.specs.Prelude.{◌≡◌, ◌+◌, ◌++◌, ◌∷◌, [], ◌<◌, ◌≤◌, ◌^◌, List, count_by, length, true, false, Ok, IfErr, IfOk, OnOk, OnErr};
+ghost use Rattle.std.specs.List.{AllByRecursion};
+ghost use Rattle.io_traits.specs.Host.{IsBoundFor, WritesOnly};
+ghost use Rattle.io_traits.specs.declared.host.Place.{Place};
+ghost use Rattle.io_traits.specs.declared.host.Way.{Way};
+ghost use Rattle.recording.specs.Answers.{item_of, items_of};
+ghost use Rattle.recording.specs.Items.{IsItem, datagram, tick};
+ghost use Rattle.admission_log.specs.Histories.{last_of};
+ghost use Rattle.tracker_session.specs.Answers.{Answered, IsAnswer, ReplayedFront, WritingBreaksOff};
+ghost use Rattle.tracker_session.specs.Places.{StopsWriting};
+ghost use Rattle.tracker_session.specs.Replay.{counted, is_admitted, is_ahead, is_early, is_not_plot, is_unknown, others_in};
+ghost use Rattle.tracker_session.specs.Steps.{Breaks, BreaksEdition, Ends, Stopped, Takes, TakesSilently, WritesEdition};
+ghost use Rattle.tracker_session.specs.Tallies.{TakesTick, with_outcomes};
+ghost use Rattle.tracker_session.specs.Picture.{IsEdition};
+ghost use Rattle.admission_log.specs.declared.settings.Settings as Given;
+ghost use Rattle.admission_log.specs.declared.events.Event.{Event};
+
+use crate::picture::edition;
+use crate::plots::plots_of;
+use crate::reading::read_octets;
+use crate::screen::Counts;
+use crate::status::{Spot, Status};
+use crate::streams::write_all;
+use admission_log::{AdmitError, Event, Log, Outcome, Settings, TickError};
+use io_traits::{Failed, Host, Place};
+use recording::Item;
+use std::alloc::Global;
+use trk_base::NoMemory;
+
+/// A replay so far: its log, and what became of its items.
+#[derive(Drop)]
+struct Run {
+    log: Log,
+    counts: Counts,
+}
+
+fn is_admitted(outcome: &Outcome) -> bool
+    ensures { result ≡ is_admitted outcome.now }
+{
+    matches!(outcome, Outcome::Admitted(_))
+}
+
+fn is_unknown(outcome: &Outcome) -> bool
+    ensures { result ≡ is_unknown outcome.now }
+{
+    matches!(outcome, Outcome::UnknownRadar)
+}
+
+fn is_early(outcome: &Outcome) -> bool
+    ensures { result ≡ is_early outcome.now }
+{
+    matches!(outcome, Outcome::BeforeHorizon { .. })
+}
+
+fn is_ahead(outcome: &Outcome) -> bool
+    ensures { result ≡ is_ahead outcome.now }
+{
+    matches!(outcome, Outcome::Ahead { .. })
+}
+
+fn is_not_plot(outcome: &Outcome) -> bool
+    ensures { result ≡ is_not_plot outcome.now }
+{
+    matches!(outcome, Outcome::NotPlot(_))
+}
+
+// A count, and what is to be added to it. It stands still at its type's end.
+fn more(count: u64, added: u64) -> u64
+    ensures { result ≡ counted (count + added) }
+{
+    count.saturating_add(added)
+}
+
+fn count_admitted(outcomes: &[Outcome]) -> u64
+    ensures { result ≡ count_by is_admitted outcomes.now }
+{
+    outcomes.iter().filter(|outcome| is_admitted(outcome)).count() as u64
+}
+
+fn count_unknown(outcomes: &[Outcome]) -> u64
+    ensures { result ≡ count_by is_unknown outcomes.now }
+{
+    outcomes.iter().filter(|outcome| is_unknown(outcome)).count() as u64
+}
+
+fn count_early(outcomes: &[Outcome]) -> u64
+    ensures { result ≡ count_by is_early outcomes.now }
+{
+    outcomes.iter().filter(|outcome| is_early(outcome)).count() as u64
+}
+
+fn count_ahead(outcomes: &[Outcome]) -> u64
+    ensures { result ≡ count_by is_ahead outcomes.now }
+{
+    outcomes.iter().filter(|outcome| is_ahead(outcome)).count() as u64
+}
+
+fn count_not_plots(outcomes: &[Outcome]) -> u64
+    ensures { result ≡ count_by is_not_plot outcomes.now }
+{
+    outcomes.iter().filter(|outcome| is_not_plot(outcome)).count() as u64
+}
+
+// Counts what was told of the messages of a datagram.
+fn count_outcomes(counts: &mut Counts, outcomes: &[Outcome])
+    ensures { counts.exit.now ≡ with_outcomes outcomes.now counts.entry.now }
+{
+    counts.admitted = more(counts.admitted, count_admitted(outcomes));
+    counts.unknown = more(counts.unknown, count_unknown(outcomes));
+    counts.early = more(counts.early, count_early(outcomes));
+    counts.ahead = more(counts.ahead, count_ahead(outcomes));
+    counts.not_plots = more(counts.not_plots, count_not_plots(outcomes));
+}
+
+// How many blocks the last event of a log passed over.
+fn others_in_last(log: &Log) -> u64
+    ensures { (front : List Event) (event : Event) → log.now.events ≡ front ++ event ∷ [] → result ≡ others_in event }
+{
+    match log.events().last() {
+        Some(Event::Deliver { other, .. }) => u64::from(*other),
+        _ => 0,
+    }
+}
+
+impl Run {
+    // Takes a datagram of a feed.
+    fn admit(&mut self, settings: &Settings, feed: u8, octets: &[u8]) -> Result<(), Status>
+        requires { length octets.now ≤ 65535 }
+        ensures taken { OnOk result (TakesSilently settings.now (datagram feed octets.now) self.old self.new) }
+        ensures memory { IfErr result (λ s. s ≡ Status.Memory) }
+    {
+        match self.log.admit(settings, feed, octets) {
+            Ok(receipt) => {
+                count_outcomes(&mut self.counts, receipt.outcomes.as_slice());
+                let other = others_in_last(&self.log);
+                self.counts.other = more(self.counts.other, other);
+                Ok(())
+            }
+            Err(AdmitError::Malformed(_)) => {
+                self.counts.malformed = more(self.counts.malformed, 1);
+                Ok(())
+            }
+            Err(AdmitError::NoMemory) => Err(Status::Memory),
+        }
+    }
+
+    // Takes a tick. It is false where that is an old one.
+    fn tick(&mut self, time: u64) -> Result<bool, Status>
+        requires { time < 2 ^ 40 }
+        ensures taken { result ≡ Ok true → TakesTick time self.old self.new }
+        ensures old { result ≡ Ok false → (settings : Given.Settings) → TakesSilently settings (tick time) self.old self.new }
+        ensures memory { IfErr result (λ s. s ≡ Status.Memory) }
+    {
+        match self.log.tick(time) {
+            Ok(_) => {
+                self.counts.editions = more(self.counts.editions, 1);
+                Ok(true)
+            }
+            Err(TickError::Old { .. }) => {
+                self.counts.old = more(self.counts.old, 1);
+                Ok(false)
+            }
+            Err(TickError::NoMemory) => Err(Status::Memory),
+        }
+    }
+}
+
+// Writes the edition of a log at its last tick to Output.
+fn write_edition<H: Host>(
+    alloc: Global,
+    settings: &Settings,
+    log: &Log,
+    time: u64,
+    host: &mut H,
+) -> Result<(), Status>
+    requires last { time ≡ last_of log.now }
+    requires bound { IsBoundFor Way.Write (H.state host.old) Place.Output }
+    ensures ok { OnOk result (WritesEdition settings.now log.now time (H.state host.old) (H.state host.new)) }
+    ensures kept { OnOk result ((H.state host.new).faults Place.Output ≡ (H.state host.old).faults Place.Output) }
+    ensures stops { IfErr result (λ s. StopsWriting s (H.state host.old) (H.state host.new)) }
+    ensures front { OnErr result (BreaksEdition settings.now log.now time (H.state host.old) (H.state host.new)) }
+    ensures uses { WritesOnly Place.Output (H.state host.old) (H.state host.new) }
+{
+    let Ok(datagrams) = edition_of(alloc, settings, log, time) else {
+        return Err(Status::Memory);
+    };
+    match write_all(host, Place::Output, &datagrams) {
+        Ok(()) => Ok(()),
+        Err(Failed) => Err(Status::Write(Spot::Output)),
+    }
+}
+
+// The edition of a log at its last tick.
+fn edition_of(
+    alloc: Global,
+    settings: &Settings,
+    log: &Log,
+    time: u64,
+) -> Result<Vec<u8>, NoMemory>
+    requires { time ≡ last_of log.now }
+    ensures { IfOk result (λ v. IsEdition settings.now log.now time v.items) }
+{
+    let plots = plots_of(alloc, settings, log, time)?;
+    edition(alloc, settings, time, &plots)
+}
+
+// Takes an item.
+fn take_item<H: Host>(
+    alloc: Global,
+    settings: &Settings,
+    item: Item<'_>,
+    run: &mut Run,
+    host: &mut H,
+) -> Result<(), Status>
+    requires fits { IsItem (item_of item) }
+    requires bound { IsBoundFor Way.Write (H.state host.old) Place.Output }
+    ensures taken { OnOk result (Takes settings.now (item_of item.entry) run.old run.new (H.state host.old) (H.state host.new)) }
+    ensures kept { OnOk result ((H.state host.new).faults Place.Output ≡ (H.state host.old).faults Place.Output) }
+    ensures stops { IfErr result (λ s. StopsWriting s (H.state host.old) (H.state host.new)) }
+    ensures front { OnErr result (Breaks settings.now (item_of item.entry) run.old (H.state host.old) (H.state host.new)) }
+    ensures uses { WritesOnly Place.Output (H.state host.old) (H.state host.new) }
+{
+    match item {
+        Item::Datagram { feed, bytes } => run.admit(settings, feed, bytes),
+        Item::Tick(time) => {
+            if run.tick(time)? {
+                write_edition(alloc, settings, &run.log, time, host)?;
+            }
+            Ok(())
+        }
+    }
+}
+
+// Takes the items behind the start.
+fn take_items<H: Host>(
+    alloc: Global,
+    settings: &Settings,
+    start: u64,
+    items: &[Item<'_>],
+    host: &mut H,
+) -> Result<Counts, Status>
+    requires start { start < 2 ^ 40 }
+    requires fits { AllByRecursion IsItem (items_of items.now) }
+    requires bound { IsBoundFor Way.Write (H.state host.old) Place.Output }
+    ensures ended { IfOk result (λ counts. Ends settings.now (items_of items.now) start counts (H.state host.old) (H.state host.new)) }
+    ensures kept { OnOk result ((H.state host.new).faults Place.Output ≡ (H.state host.old).faults Place.Output) }
+    ensures stops { IfErr result (λ s. StopsWriting s (H.state host.old) (H.state host.new)) }
+    ensures front { OnErr result (Stopped settings.now (items_of items.now) start (H.state host.old) (H.state host.new)) }
+    ensures uses { WritesOnly Place.Output (H.state host.old) (H.state host.new) }
+{
+    let mut run = Run {
+        log: Log::new(alloc, start),
+        counts: Counts::none(),
+    };
+    for item in items {
+        take_item(alloc, settings, *item, &mut run, host)?;
+    }
+    Ok(run.counts)
+}
+
+/// Output gets what the replay of the octets gives.
+pub fn replay<H: Host>(
+    alloc: Global,
+    settings: &Settings,
+    octets: &[u8],
+    host: &mut H,
+) -> Result<Counts, Status>
+    requires { IsBoundFor Way.Write (H.state host.old) Place.Output }
+    ensures answer { Answered settings.now octets.now result (H.state host.old) (H.state host.new) }
+    ensures causes { WritingBreaksOff result (H.state host.old) (H.state host.new) }
+    ensures kept { IsAnswer result → (H.state host.new).faults Place.Output ≡ (H.state host.old).faults Place.Output }
+    ensures front { ReplayedFront settings.now octets.now (H.state host.old) (H.state host.new) }
+    ensures uses { WritesOnly Place.Output (H.state host.old) (H.state host.new) }
+{
+    let Ok(reading) = read_octets(alloc, octets) else {
+        return Err(Status::Memory);
+    };
+    let counts = take_items(alloc, settings, reading.start, &reading.items, host)?;
+    match reading.fault {
+        Some(offset) => Err(Status::Input { offset }),
+        None => Ok(counts),
+    }
+}

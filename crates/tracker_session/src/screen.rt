@@ -1,0 +1,148 @@
+// What the screen says at the end of a command.
+ghost use Rattle.std.specs.Prelude.{◌≡◌, IfOk, string_bytes};
+ghost use Rattle.tracker_session.specs.Screen.{counts_line, no_counts, plots_text, others_text, key_line, settings_line, spot_line, status_line};
+
+use crate::status::{Spot, Status};
+use settings_text::{KeyPath, SettingsFault};
+use std::alloc::{AllocError, Global};
+
+/// What came of the items of a replay.
+#[derive(Clone, Copy, Debug, PartialEq, Eq)]
+pub struct Counts {
+    /// The ticks taken, each of which gave an edition.
+    pub editions: u64,
+    /// The plots admitted.
+    pub admitted: u64,
+    /// The plots of a source that is no radar of the settings.
+    pub unknown: u64,
+    /// The plots before the horizon.
+    pub early: u64,
+    /// The plots too far ahead of the last tick.
+    pub ahead: u64,
+    /// The reports that are no plots.
+    pub not_plots: u64,
+    /// The datagrams that are malformed, of which nothing else is counted.
+    pub malformed: u64,
+    /// The blocks of other categories, which were passed over.
+    pub other: u64,
+    /// The ticks that weren't above the last one.
+    pub old: u64,
+}
+
+impl Counts {
+    /// Those of a replay that has taken no item.
+    pub fn none() -> Counts
+        ensures { result ≡ no_counts }
+    {
+        Counts {
+            editions: 0,
+            admitted: 0,
+            unknown: 0,
+            early: 0,
+            ahead: 0,
+            not_plots: 0,
+            malformed: 0,
+            other: 0,
+            old: 0,
+        }
+    }
+}
+
+/// The line of a replay that was done.
+pub fn counts_line(alloc: Global, counts: &Counts) -> Result<String, AllocError>
+    ensures { IfOk result (λ s. string_bytes s ≡ counts_line counts.now) }
+{
+    let editions = counts.editions;
+    let plots = plots_text(alloc, counts)?;
+    let others = others_text(alloc, counts)?;
+    format!(in alloc; "editions {editions} {plots} {others}\n")
+}
+
+// What came of the plots of a replay.
+fn plots_text(alloc: Global, counts: &Counts) -> Result<String, AllocError>
+    ensures { IfOk result (λ s. string_bytes s ≡ plots_text counts.now) }
+{
+    let Counts {
+        admitted,
+        unknown,
+        early,
+        ahead,
+        ..
+    } = *counts;
+    format!(in alloc; "admitted {admitted} unknown {unknown} early {early} ahead {ahead}")
+}
+
+// What was no plot, or no more than passed over.
+fn others_text(alloc: Global, counts: &Counts) -> Result<String, AllocError>
+    ensures { IfOk result (λ s. string_bytes s ≡ others_text counts.now) }
+{
+    let Counts {
+        not_plots,
+        malformed,
+        other,
+        old,
+        ..
+    } = *counts;
+    format!(in alloc; "notplots {not_plots} malformed {malformed} other {other} old {old}")
+}
+
+/// The line that tells how a command ended. Where all was done there is none.
+pub fn status_line(alloc: Global, status: &Status) -> Result<String, AllocError>
+    ensures { IfOk result (λ s. string_bytes s ≡ status_line status.now) }
+{
+    match status {
+        Status::Done => Ok(String::new(alloc)),
+        Status::Usage => String::from_str(
+            alloc,
+            "usage: tracker replay, check, scene, exercise or serve\n",
+        ),
+        Status::Settings(fault) => settings_line(alloc, fault),
+        Status::Input { offset } => format!(in alloc; "input: offset {offset}\n"),
+        Status::Read(spot) => spot_line(alloc, "read", *spot),
+        Status::Write(spot) => spot_line(alloc, "write", *spot),
+        Status::Memory => String::from_str(alloc, "no memory\n"),
+    }
+}
+
+// The line of a fault of the settings.
+fn settings_line(alloc: Global, fault: &SettingsFault) -> Result<String, AllocError>
+    ensures { IfOk result (λ s. string_bytes s ≡ settings_line fault.now) }
+{
+    match fault {
+        SettingsFault::Syntax => String::from_str(alloc, "settings: not a document\n"),
+        SettingsFault::Missing(path) => key_line(alloc, "missing", path),
+        SettingsFault::Kind(path) => key_line(alloc, "kind of", path),
+        SettingsFault::Range(path) => key_line(alloc, "range of", path),
+        SettingsFault::Unknown => String::from_str(alloc, "settings: unknown key\n"),
+        SettingsFault::Duplicate { radar, first } => {
+            format!(in alloc; "settings: radar {radar} repeats radar {first}\n")
+        }
+    }
+}
+
+// The line of what is wrong with a key.
+fn key_line(alloc: Global, what: &str, path: &KeyPath) -> Result<String, AllocError>
+    ensures { IfOk result (λ s. string_bytes s ≡ key_line what.now path.now.key path.now.radar) }
+{
+    let key = path.key;
+    match path.radar {
+        None => format!(in alloc; "settings: {what} key {key}\n"),
+        Some(radar) => format!(in alloc; "settings: {what} key {key} of radar {radar}\n"),
+    }
+}
+
+// The line of a place that failed.
+fn spot_line(alloc: Global, what: &str, spot: Spot) -> Result<String, AllocError>
+    ensures { IfOk result (λ s. string_bytes s ≡ spot_line what.now spot) }
+{
+    match spot {
+        Spot::Settings => format!(in alloc; "{what}: Settings\n"),
+        Spot::Input => format!(in alloc; "{what}: Input\n"),
+        Spot::Output => format!(in alloc; "{what}: Output\n"),
+        Spot::Prices => format!(in alloc; "{what}: Prices\n"),
+        Spot::Screen => format!(in alloc; "{what}: Screen\n"),
+        Spot::Feed(number) => format!(in alloc; "{what}: feed {number}\n"),
+        Spot::Outlet(number) => format!(in alloc; "{what}: outlet {number}\n"),
+        Spot::Clock => format!(in alloc; "{what}: Clock\n"),
+    }
+}
