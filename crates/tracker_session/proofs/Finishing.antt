@@ -63,10 +63,11 @@ front_still settings octets old mid new only h output counts fault r =
     subst (λ (g : Option (List ℕ)). AppendsFront (old.got places.Output) g output) (sym (only.got places.Output output_screen)) (h output counts fault r)
 
 pub bound_still : (settings input output : List ℕ) (r : Result Counts Status) (old mid new : HostState) → Ran settings input output r old mid → WritesOnly places.Screen mid new → BoundAtMost (new.bound places.Settings) ways.Read settings × BoundAtMost (new.bound places.Input) ways.Read input × BoundAtMost (new.bound places.Output) ways.Write output
-bound_still settings input output r old mid new ran only =
-    (subst (λ (b : Option (Way × List ℕ)). BoundAtMost b ways.Read settings) (sym (only.bound places.Settings)) ran.settings_bound,
-     subst (λ (b : Option (Way × List ℕ)). BoundAtMost b ways.Read input) (sym (only.bound places.Input)) ran.input_bound,
-     subst (λ (b : Option (Way × List ℕ)). BoundAtMost b ways.Write output) (sym (only.bound places.Output)) ran.output_bound)
+bound_still settings input output r old mid new ran only = (
+  subst (λ (b : Option (Way × List ℕ)). BoundAtMost b ways.Read settings) (sym (only.bound places.Settings)) ran.settings_bound,
+  subst (λ (b : Option (Way × List ℕ)). BoundAtMost b ways.Read input) (sym (only.bound places.Input)) ran.input_bound,
+  subst (λ (b : Option (Way × List ℕ)). BoundAtMost b ways.Write output) (sym (only.bound places.Output)) ran.output_bound,
+)
 
 pub are_bound : (settings input output : List ℕ) (r : Result Counts Status) (old mid new : HostState) → Ran settings input output r old mid → WritesOnly places.Screen mid new → IsAnswer r → AreBound settings input output old new
 are_bound settings input output r old mid new ran only is =

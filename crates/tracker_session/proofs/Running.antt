@@ -156,10 +156,10 @@ ran_under settings input output octets given r old mid new read uses gives u =
       fault = λ f e document has. absurd (subst (λ (t : Result Counts Status). BreaksOff t mid new) e u.causes);
       causes = breaks_up r old mid new later u.causes;
       front = λ document all other hs is hi out counts fault h. (
-        let mine = answer_alike octets document (Ok given) (read_alike places.Settings octets settings document old mid read hs) gives in
-        let same = settings_same other given (only_answer document (Ok other) (Ok given) is mine) in
-        let moved = subst (λ (s : admission.Settings). Replays s all out counts fault) same h in
-        subst (λ (g : Option (List ℕ)). AppendsFront g (new.got places.Output) out) (uses.got places.Output) (u.front all (uses.others.left places.Input input_settings ∙ hi) out counts fault moved));
+          let mine = answer_alike octets document (Ok given) (read_alike places.Settings octets settings document old mid read hs) gives in
+          let same = settings_same other given (only_answer document (Ok other) (Ok given) is mine) in
+          let moved = subst (λ (s : admission.Settings). Replays s all out counts fault) same h in
+          subst (λ (g : Option (List ℕ)). AppendsFront g (new.got places.Output) out) (uses.got places.Output) (u.front all (uses.others.left places.Input input_settings ∙ hi) out counts fault moved));
       order = λ is. record { bound = (u.order is).bound; got = (u.order is).got ∙ uses.got places.Output };
       settings_bound = inr here;
       input_bound = u.input_bound;

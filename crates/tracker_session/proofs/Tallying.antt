@@ -44,6 +44,7 @@ malformed_taken settings feed octets old new fault log counts =
   where
     item : Taken
     item = malformed feed octets
+
     grown : (items : List Taken) → old.counts ≡ counts_of old.log items → new.counts ≡ counts_of new.log (items ++ item ∷ [])
     grown items e =
         let one : counted (counted (count_by is_malformed items) + 1) ≡ counted (count_by is_malformed (items ++ item ∷ [])) = omega (arith, sum_by_push (λ t. cond (is_malformed t) 1 0) items item) in
@@ -61,6 +62,7 @@ old_tick_taken settings time old new late log counts =
   where
     item : Taken
     item = old_tick time
+
     grown : (items : List Taken) → old.counts ≡ counts_of old.log items → new.counts ≡ counts_of new.log (items ++ item ∷ [])
     grown items e =
         let one : counted (counted (count_by is_old items) + 1) ≡ counted (count_by is_old (items ++ item ∷ [])) = omega (arith, sum_by_push (λ t. cond (is_old t) 1 0) items item) in
@@ -91,8 +93,10 @@ admitted_taken settings feed octets contents old new is log counts =
   where
     item : Taken
     item = admitted feed octets contents
+
     event : Event
     event = delivery_to settings old.log feed contents
+
     grown : (items : List Taken) → old.counts ≡ counts_of old.log items → new.counts ≡ counts_of new.log (items ++ item ∷ [])
     grown items e =
         let faults : counted (count_by is_malformed items) ≡ counted (count_by is_malformed (items ++ item ∷ [])) = omega (arith, sum_by_push (λ t. cond (is_malformed t) 1 0) items item) in
@@ -118,10 +122,13 @@ ticked_taken settings time old new h =
   where
     item : Taken
     item = ticked time
+
     event : Event
     event = Tick time
+
     still : (p : Outcome → Bool) → counted (count_by p (told_of old.log)) ≡ counted (count_by p (told_of (appended old.log event)))
     still p = ap (λ t. counted (count_by p t)) (sym (told_push old.log event ∙ append-nil (told_of old.log)))
+
     grown : (items : List Taken) → old.counts ≡ counts_of old.log items → new.counts ≡ counts_of new.log (items ++ item ∷ [])
     grown items e =
         let faults : counted (count_by is_malformed items) ≡ counted (count_by is_malformed (items ++ item ∷ [])) = omega (arith, sum_by_push (λ t. cond (is_malformed t) 1 0) items item) in

@@ -41,7 +41,22 @@ fn track_record_of(settings: &Settings, time: u64, plot: &PlanePlot) -> [u8; 16]
     let [y0, y1, y2] = half_metres(plot.y);
     let [n0, n1] = (plot.key.arrival as u16 + 1).to_be_bytes();
     [
-        0x95, 0x0C, settings.sac, settings.sic, t0, t1, t2, x0, x1, x2, y0, y1, y2, n0, n1, 0x80,
+        0x95,
+        0x0C,
+        settings.sac,
+        settings.sic,
+        t0,
+        t1,
+        t2,
+        x0,
+        x1,
+        x2,
+        y0,
+        y1,
+        y2,
+        n0,
+        n1,
+        0x80,
     ]
 }
 /// Records on their way into blocks: the octets of the blocks that are full, and the last block.
@@ -85,7 +100,6 @@ impl Setting {
         Ok(full)
     }
 }
-
 
 /// The blocks of a track for each of the plots that are shown, in their order.
 pub fn edition(

@@ -11,7 +11,12 @@ use std::alloc::Global;
 use trk_base::{Key, NoMemory, slot_of};
 
 /// The plots that were admitted to a log whose last tick is this, as far as their slots are over, in the plane and in rising key.
-pub fn plots_of(alloc: Global, settings: &Settings, log: &Log, last: u64) -> Result<Vec<PlanePlot>, NoMemory>
+pub fn plots_of(
+    alloc: Global,
+    settings: &Settings,
+    log: &Log,
+    last: u64,
+) -> Result<Vec<PlanePlot>, NoMemory>
     requires { last ≡ last_of log.now }
     ensures { IfOk result (λ v. v.items ≡ plots_of settings.now log.now) }
 {

@@ -75,13 +75,19 @@ fn more(count: u64, added: u64) -> u64
 fn count_admitted(outcomes: &[Outcome]) -> u64
     ensures { result ≡ count_by is_admitted outcomes.now }
 {
-    outcomes.iter().filter(|outcome| is_admitted(outcome)).count() as u64
+    outcomes
+        .iter()
+        .filter(|outcome| is_admitted(outcome))
+        .count() as u64
 }
 
 fn count_unknown(outcomes: &[Outcome]) -> u64
     ensures { result ≡ count_by is_unknown outcomes.now }
 {
-    outcomes.iter().filter(|outcome| is_unknown(outcome)).count() as u64
+    outcomes
+        .iter()
+        .filter(|outcome| is_unknown(outcome))
+        .count() as u64
 }
 
 fn count_early(outcomes: &[Outcome]) -> u64
@@ -99,7 +105,10 @@ fn count_ahead(outcomes: &[Outcome]) -> u64
 fn count_not_plots(outcomes: &[Outcome]) -> u64
     ensures { result ≡ count_by is_not_plot outcomes.now }
 {
-    outcomes.iter().filter(|outcome| is_not_plot(outcome)).count() as u64
+    outcomes
+        .iter()
+        .filter(|outcome| is_not_plot(outcome))
+        .count() as u64
 }
 
 // Counts what was told of the messages of a datagram.
@@ -192,12 +201,7 @@ fn write_edition<H: Host>(
 }
 
 // The edition of a log at its last tick.
-fn edition_of(
-    alloc: Global,
-    settings: &Settings,
-    log: &Log,
-    time: u64,
-) -> Result<Vec<u8>, NoMemory>
+fn edition_of(alloc: Global, settings: &Settings, log: &Log, time: u64) -> Result<Vec<u8>, NoMemory>
     requires { time ≡ last_of log.now }
     ensures { IfOk result (λ v. IsEdition settings.now log.now time v.items) }
 {

@@ -6,7 +6,8 @@ use std::process::Abort;
 use std::test::Fail;
 
 /// The settings of one system and one radar.
-const SETTINGS: &[u8] = b"[system]\nsac = 1\nsic = 99\nservice = 1\nhits = 1\n[[radar]]\nsac = 1\nsic = 1\nx = 0\ny = 0\nrange_sigma = 50\nazimuth_sigma = 12\n";
+const SETTINGS: &[u8] =
+    b"[system]\nsac = 1\nsic = 99\nservice = 1\nhits = 1\n[[radar]]\nsac = 1\nsic = 1\nx = 0\ny = 0\nrange_sigma = 50\nazimuth_sigma = 12\n";
 
 /// A recording of one plot, 256/256 NM north of the radar, and a tick a second after the start.
 const ONE_PLOT: [u8; 33] = [
@@ -86,7 +87,8 @@ fn compare(
 
 #[test]
 fn an_unknown_radar(rt: HostRuntime) -> Result<(), Fail> {
-    let screen = "editions 1 admitted 2 unknown 1 early 0 ahead 0 notplots 0 malformed 0 other 0 old 0\n";
+    let screen =
+        "editions 1 admitted 2 unknown 1 early 0 ahead 0 notplots 0 malformed 0 other 0 old 0\n";
     let given: (&[u8], &[u8], &[u64]) = (SETTINGS, &UNKNOWN_RADAR, &[]);
     compare(&rt, rt.alloc(), given, Status::Done, &TWO_TRACKS, screen)
 }
@@ -94,7 +96,8 @@ fn an_unknown_radar(rt: HostRuntime) -> Result<(), Fail> {
 /// The datagram's block alone has the same picture.
 #[test]
 fn raw_form(rt: HostRuntime) -> Result<(), Fail> {
-    let screen = "editions 1 admitted 1 unknown 0 early 0 ahead 0 notplots 0 malformed 0 other 0 old 0\n";
+    let screen =
+        "editions 1 admitted 1 unknown 0 early 0 ahead 0 notplots 0 malformed 0 other 0 old 0\n";
     let given: (&[u8], &[u8], &[u64]) = (SETTINGS, &ONE_PLOT[13..27], &[]);
     compare(&rt, rt.alloc(), given, Status::Done, &PICTURE, screen)
 }
@@ -115,7 +118,8 @@ fn passed_over(rt: HostRuntime) -> Result<(), Fail> {
     input.extend_from_slice(&ONE_PLOT[27..])?;
     input.extend_from_slice(&[0x02, 0, 0, 2, 0x30, 0x00])?;
     input.extend_from_slice(&[0x02, 0, 0, 3, 0x15, 0x00, 0x03])?;
-    let screen = "editions 1 admitted 1 unknown 0 early 0 ahead 0 notplots 0 malformed 1 other 1 old 1\n";
+    let screen =
+        "editions 1 admitted 1 unknown 0 early 0 ahead 0 notplots 0 malformed 1 other 1 old 1\n";
     let given: (&[u8], &[u8], &[u64]) = (SETTINGS, &input, &[]);
     compare(&rt, alloc, given, Status::Done, &PICTURE, screen)
 }
@@ -124,19 +128,26 @@ fn passed_over(rt: HostRuntime) -> Result<(), Fail> {
 #[test]
 fn settings_faults(rt: HostRuntime) -> Result<(), Fail> {
     let system = b"[system]\nsac = 1\nsic = 99\n";
-    let radar = b"[[radar]]\nsac = 1\nsic = 1\nx = 0\ny = 0\nrange_sigma = 50\nazimuth_sigma = 12\n";
+    let radar =
+        b"[[radar]]\nsac = 1\nsic = 1\nx = 0\ny = 0\nrange_sigma = 50\nazimuth_sigma = 12\n";
     let alloc = rt.alloc();
     let rows: [(&[u8], usize, SettingsFault, &str); 3] = [
         (
             b"",
             1,
-            SettingsFault::Missing(KeyPath { radar: None, key: 3 }),
+            SettingsFault::Missing(KeyPath {
+                radar: None,
+                key: 3,
+            }),
             "settings: missing key 3\n",
         ),
         (
             b"service = 1\nhits = 9\n",
             1,
-            SettingsFault::Range(KeyPath { radar: None, key: 5 }),
+            SettingsFault::Range(KeyPath {
+                radar: None,
+                key: 5,
+            }),
             "settings: range of key 5\n",
         ),
         (

@@ -78,10 +78,18 @@ fn replay_of(
 ) -> Option<Command>
     ensures { IfSome result (λ command. HasNames settings.now input.now output.now prices.now command) }
 {
-    let Ok(settings) = String::from_str(alloc, settings) else { return None; };
-    let Ok(input) = String::from_str(alloc, input) else { return None; };
-    let Ok(output) = String::from_str(alloc, output) else { return None; };
-    let Ok(prices) = String::from_str(alloc, prices) else { return None; };
+    let Ok(settings) = String::from_str(alloc, settings) else {
+        return None;
+    };
+    let Ok(input) = String::from_str(alloc, input) else {
+        return None;
+    };
+    let Ok(output) = String::from_str(alloc, output) else {
+        return None;
+    };
+    let Ok(prices) = String::from_str(alloc, prices) else {
+        return None;
+    };
     Some(Command::Replay {
         settings,
         input,
