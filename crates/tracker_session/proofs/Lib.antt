@@ -8,6 +8,7 @@ pub mod Pictures
 pub mod Running
 pub mod Runs
 pub mod Settings
+pub mod SomeReplay
 pub mod Stepping
 pub mod Takings
 pub mod Tallying

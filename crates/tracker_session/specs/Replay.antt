@@ -139,3 +139,9 @@ pub record Replays (settings : Settings) (octets output : List ℕ) (counts : Co
   pub are_taken : AreTaken settings (empty_log start) taken
   pub output_is : IsOutput settings (empty_log start) taken output
   pub counts_are : counts ≡ counts_of (log_of settings (empty_log start) taken) taken
+
+pub record HasReplay (settings : Settings) (octets : List ℕ) : Type 0 where
+  pub output : List ℕ
+  pub counts : Counts
+  pub fault : Option ℕ
+  pub replays : Replays settings octets output counts fault

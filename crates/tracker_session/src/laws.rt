@@ -3,7 +3,7 @@ ghost use Rattle.std.specs.Prelude.{◌≡◌, ◌<◌, ℕ, List, All, Option};
 ghost use Rattle.admission_log.specs.declared.settings.Settings.{Settings};
 ghost use Rattle.recording.specs.Items.{Item};
 ghost use Rattle.tracker_session.specs.Inputs.{HasReading, IsRead};
-ghost use Rattle.tracker_session.specs.Replay.{Replays};
+ghost use Rattle.tracker_session.specs.Replay.{HasReplay, Replays};
 ghost use Rattle.tracker_session.specs.declared.screen.Counts.{Counts};
 
 /// An input has exactly one reading, whether or not it passes the limit.
@@ -12,7 +12,8 @@ pub fn one_reading()
     ensures one { (octets : List ℕ) (s t : ℕ) (xs ys : List Item) (f g : Option ℕ) → IsRead octets s xs f → IsRead octets t ys g → (s ≡ t) × (xs ≡ ys) × (f ≡ g) }
 {}
 
-/// Under settings a replay has one output, one list of counts, and one fault or none.
+/// Under settings octets have exactly one replay: one output, one list of counts, and one fault or none.
 pub fn one_replay()
-    ensures { (settings : Settings) (octets a b : List ℕ) (c d : Counts) (f g : Option ℕ) → Replays settings octets a c f → Replays settings octets b d g → (a ≡ b) × (c ≡ d) × (f ≡ g) }
+    ensures some { (settings : Settings) (octets : List ℕ) → All (λ octet. octet < 256) octets → HasReplay settings octets }
+    ensures one { (settings : Settings) (octets a b : List ℕ) (c d : Counts) (f g : Option ℕ) → Replays settings octets a c f → Replays settings octets b d g → (a ≡ b) × (c ≡ d) × (f ≡ g) }
 {}

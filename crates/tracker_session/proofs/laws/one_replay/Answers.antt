@@ -1,5 +1,9 @@
 use Rattle.tracker_session.proofs.Runs.{one_replay}
+use Rattle.tracker_session.proofs.SomeReplay.{some_replay}
 use Rattle.tracker_session.proofs.laws.one_replay.Goals as goal
 
-pub returns : goal.returns
-returns c = one_replay
+pub returns-clause-some : goal.returns-clause-some
+returns-clause-some c = some_replay
+
+pub returns-clause-one : goal.returns-clause-one
+returns-clause-one c = one_replay
