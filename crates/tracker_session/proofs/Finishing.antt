@@ -1,5 +1,5 @@
 -- The end of a command: what came of it, and what Screen got.
-use Rattle.std.proofs.Common.{◌≡◌, ◌≢◌, ◌∙◌, ap, sym, refl, subst, inl, inr, ℕ, ◌≤◌, ◌⊎◌, List, length, arith}
+use Rattle.std.proofs.Common.{◌≡◌, ◌≢◌, ◌∙◌, ap, sym, refl, subst, inl, inr, ℕ, ◌≤◌, ◌⊎◌, List, length}
 use Rattle.std.specs.Prelude.{Option, Some, None, Result, Ok, Err}
 use Rattle.std.specs.Io.KnownBytes.{Appends}
 use Rattle.io_traits.specs.Faults.{Rose}
@@ -18,9 +18,9 @@ use Rattle.tracker_session.specs.declared.status.Spot.TheVariants as spots
 use Rattle.tracker_session.specs.Words.{AreReplay, IsReplay}
 use Rattle.tracker_session.specs.declared.status.Status.{Status}
 use Rattle.tracker_session.specs.declared.status.Status.TheVariants.{Done, Usage, Settings, Input, Read, Write, Memory}
-use Rattle.tracker_session.specs.Answers.{IsAnswer, Answered, ReplayedFront}
+use Rattle.tracker_session.specs.Answers.{IsAnswer, ReplayedFront}
 use Rattle.tracker_session.specs.Ends.{AreBound, DoneUnder, InputUnder, IsEarly, IsEnd, NoFailure, status_at}
-use Rattle.tracker_session.specs.Places.{Has, BoundAtMost, GotFront, AppendsFront, HasFailed}
+use Rattle.tracker_session.specs.Places.{Has, BoundAtMost, AppendsFront, HasFailed}
 use Rattle.tracker_session.specs.Inputs.{limit}
 use Rattle.tracker_session.specs.Replay.{Replays}
 use Rattle.tracker_session.specs.Runs.{Ran, EndsFor, IsUntouched}

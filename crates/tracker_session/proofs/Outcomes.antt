@@ -1,5 +1,5 @@
 -- From what was read of a place to what it had, and from step to step.
-use Rattle.std.proofs.Common.{◌≡◌, ◌≢◌, ◌∙◌, ap, sym, refl, subst, inl, inr, ℕ, ◌<◌, ◌≤◌, ◌⊎◌, List, [], ◌++◌, length, take, arith, length-append}
+use Rattle.std.proofs.Common.{◌≡◌, ◌≢◌, ◌∙◌, ap, sym, subst, inl, inr, ℕ, ◌<◌, ◌≤◌, ◌⊎◌, List, [], ◌++◌, length, take, arith, length-append}
 use Rattle.std.specs.Prelude.{Option, Some, None, Result, Ok, Err}
 use Rattle.std.proofs.lemmas.Bool.{cases_lt}
 use Rattle.std.proofs.lemmas.List.{take-append-le}
@@ -14,14 +14,13 @@ use Rattle.recording.specs.Items.{Item}
 use Rattle.recording.specs.Readings.{IsReadingOfFront}
 use Rattle.admission_log.specs.declared.settings.Settings as admission
 use Rattle.tracker_session.specs.declared.screen.Counts.{Counts}
-use Rattle.tracker_session.specs.declared.status.Spot.{Spot}
 use Rattle.tracker_session.specs.declared.status.Status.{Status}
 use Rattle.tracker_session.specs.declared.status.Status.TheVariants.{Done, Usage, Settings, Input, Read, Write, Memory}
 use Rattle.tracker_session.specs.Answers.{IsAnswer, Replayed, Answered, ReplayedFront, BreaksOff, WritingBreaksOff}
-use Rattle.tracker_session.specs.Places.{AppendsFront, Has, Got, GotFront, HasFailed, BoundAtMost, PlaceRead, IsFaultless, OutputBound, StopsReading, StopsWriting, UsesRead, UsesWrite, UsesInputAndOutput}
+use Rattle.tracker_session.specs.Places.{AppendsFront, Has, GotFront, BoundAtMost, PlaceRead, IsFaultless, OutputBound, StopsReading, StopsWriting, UsesRead, UsesWrite, UsesInputAndOutput}
 use Rattle.tracker_session.specs.Inputs.{IsRead, limit}
 use Rattle.tracker_session.specs.Replay.{Replays}
-use Rattle.tracker_session.specs.Runs.{RanUnder, IsBeforeOutput, IsUntouched}
+use Rattle.tracker_session.specs.Runs.{RanUnder, IsBeforeOutput}
 use Rattle.tracker_session.proofs.Frames.{later_of, later_written}
 use Rattle.tracker_session.proofs.Stepping.{stops_since}
 

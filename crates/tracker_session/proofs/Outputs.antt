@@ -1,7 +1,6 @@
 -- The output of items, one after the other.
 use Rattle.std.proofs.Common.{◌≡◌, ◌∙◌, ap, sym, refl, ℕ, List, [], ◌∷◌, ◌++◌, append_assoc, append-nil}
 use Rattle.std.specs.List.{flat_map}
-use Rattle.std.specs.Prelude.{fold}
 use Rattle.std.proofs.lemmas.List.Sums.{fold-append}
 use Rattle.asterix_frame.proofs.Settings.{one_setting}
 use Rattle.admission_log.specs.declared.settings.Settings.{Settings}

@@ -1,7 +1,6 @@
 -- What came of a replay, by where it ended.
-use Rattle.std.proofs.Common.{◌≡◌, ◌≢◌, ◌∙◌, ap, sym, refl, subst, inl, inr, ℕ, ◌<◌, ◌≤◌, ◌⊎◌, List, length, arith}
-use Rattle.std.specs.Prelude.{Option, Some, None, Result, Ok, Err}
-use Rattle.std.specs.Io.KnownBytes.{Appends}
+use Rattle.std.proofs.Common.{◌≡◌, ◌≢◌, ◌∙◌, sym, refl, subst, inl, inr, ℕ, ◌≤◌, List, arith}
+use Rattle.std.specs.Prelude.{Option, None, Result, Ok, Err}
 use Rattle.io_traits.specs.Host.{HostState, IsEmpty}
 use Rattle.io_traits.specs.declared.host.Place.{Place}
 use Rattle.io_traits.specs.declared.host.Place.TheVariants as places
@@ -17,7 +16,7 @@ use Rattle.tracker_session.specs.declared.status.Status.{Status}
 use Rattle.tracker_session.specs.declared.status.Status.TheVariants.{Done, Usage, Settings, Input, Read, Write, Memory}
 use Rattle.tracker_session.specs.Answers.{IsAnswer, BreaksOff}
 use Rattle.tracker_session.specs.Judging.{StopsJudging}
-use Rattle.tracker_session.specs.Places.{AppendsFront, Has, BoundAtMost, PlaceRead, StopsReading, UsesRead}
+use Rattle.tracker_session.specs.Places.{AppendsFront, BoundAtMost, PlaceRead, StopsReading, UsesRead}
 use Rattle.tracker_session.specs.Replay.{Replays}
 use Rattle.tracker_session.specs.Runs.{Ran, RanUnder, Breaks, UsesThree}
 use Rattle.tracker_session.proofs.Frames.{same_or_not, later_of}

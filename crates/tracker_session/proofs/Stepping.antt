@@ -1,8 +1,8 @@
 -- One step of a replay.
-use Rattle.std.proofs.Common.{◌≡◌, ◌∙◌, ap, sym, refl, subst, inl, inr, ℕ, zero, suc, ◌+◌, ◌<◌, ◌≤◌, List, [], ◌∷◌, ◌++◌, length, get_or, drop, take, arith, append_assoc, append-nil, length-append}
+use Rattle.std.proofs.Common.{◌≡◌, ◌∙◌, ap, sym, refl, subst, inl, inr, ℕ, zero, suc, ◌+◌, ◌<◌, ◌≤◌, List, [], ◌∷◌, ◌++◌, length, get_or, drop, take, arith, append_assoc, length-append}
 use Rattle.std.specs.List.{AllByRecursion, filter_map}
 use Rattle.std.specs.Prelude.{map, max, fold}
-use Rattle.std.proofs.lemmas.List.{drop_all, drop_more, length-map, map-append, take_at, drop_at, take-append-le}
+use Rattle.std.proofs.lemmas.List.{drop_all, drop_more, length-map, map-append, take_at, drop_at}
 use Rattle.std.proofs.Math.Seq.{take-add}
 use Rattle.std.specs.Io.KnownBytes.{Appends}
 use Rattle.io_traits.specs.Host.{HostState}
@@ -18,14 +18,13 @@ use Rattle.admission_log.specs.Histories.{History, appended, last_of, tick_in}
 use Rattle.std.proofs.lemmas.List.Sums.{fold-append}
 use Rattle.std.proofs.lemmas.List.Elements.{filter_map-append}
 use Rattle.tracker_session.specs.declared.replay.Run.{Run}
-use Rattle.tracker_session.specs.declared.screen.Counts.{Counts}
 use Rattle.tracker_session.specs.declared.status.Status.{Status}
 use Rattle.tracker_session.specs.declared.status.Status.TheVariants.{Done, Usage, Input, Read, Write, Memory}
 use Rattle.tracker_session.specs.declared.status.Status.TheVariants as statuses
 use Rattle.tracker_session.specs.Picture.{IsEdition}
 use Rattle.tracker_session.specs.Places.{Got, GotFront, StopsWriting}
-use Rattle.tracker_session.specs.Replay.{Taken, ticked, item_as, AreTaken, IsOutput, IsTaken, Gives, log_of, log_with, counts_of, empty_log}
-use Rattle.tracker_session.specs.Steps.{StandsFor, HasTaken, TakesSilently, Takes, Breaks, BreaksIn, WritesEdition, BreaksEdition, Come, Ends, Stopped}
+use Rattle.tracker_session.specs.Replay.{Taken, ticked, item_as, IsTaken, Gives, log_of, log_with, counts_of, empty_log}
+use Rattle.tracker_session.specs.Steps.{StandsFor, TakesSilently, Takes, Breaks, WritesEdition, BreaksEdition, Come, Ends, Stopped}
 use Rattle.tracker_session.specs.Tallies.{TakesTick}
 use Rattle.tracker_session.proofs.Outputs.{output_push, log_push, are_taken_push}
 use Rattle.tracker_session.proofs.Runs.{got_front}

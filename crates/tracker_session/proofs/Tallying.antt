@@ -1,7 +1,7 @@
 -- Counts with one more item.
-use Rattle.std.proofs.Common.{◌≡◌, ◌∙◌, ap, sym, refl, ℕ, ◌+◌, ◌≤◌, ◌^◌, List, [], ◌∷◌, ◌++◌, length, arith, append-nil, length-append}
-use Rattle.std.specs.Prelude.{Bool, count_by, min, cond}
-use Rattle.std.specs.List.{flat_map, filter_map, sum_by}
+use Rattle.std.proofs.Common.{◌≡◌, ◌∙◌, ap, sym, refl, ℕ, ◌+◌, ◌≤◌, List, [], ◌∷◌, ◌++◌, length, arith, append-nil, length-append}
+use Rattle.std.specs.Prelude.{Bool, count_by, cond}
+use Rattle.std.specs.List.{filter_map, sum_by}
 use Rattle.std.proofs.lemmas.List.Sums.{sum_by-append, sum_by_push}
 use Rattle.std.proofs.lemmas.List.Concat.{flat_map-append}
 use Rattle.std.proofs.lemmas.List.Elements.{filter_map-append}
@@ -15,8 +15,8 @@ use Rattle.admission_log.specs.Histories.{History, appended, tick_in, last_of}
 use Rattle.admission_log.specs.Deliveries.{delivery_to, outcomes_in}
 use Rattle.tracker_session.specs.declared.replay.Run.{Run}
 use Rattle.tracker_session.specs.declared.screen.Counts.{Counts}
-use Rattle.tracker_session.specs.Replay.{Taken, admitted, malformed, ticked, old_tick, HasFault, is_admitted, is_unknown, is_early, is_ahead, is_not_plot, is_malformed, is_old, others_in, told_of, counted, counts_of, log_with}
-use Rattle.tracker_session.specs.Steps.{HasTaken, TakesSilently, Takes}
+use Rattle.tracker_session.specs.Replay.{Taken, admitted, malformed, ticked, old_tick, HasFault, is_admitted, is_unknown, is_early, is_ahead, is_not_plot, is_malformed, is_old, others_in, told_of, counted, counts_of}
+use Rattle.tracker_session.specs.Steps.{HasTaken, TakesSilently}
 use Rattle.tracker_session.specs.Tallies.{with_outcomes, TakesTick}
 
 counted_more : (a b : ℕ) → counted (counted a + b) ≡ counted (a + b)

@@ -1,5 +1,5 @@
 -- A line, and then a text.
-use Rattle.std.proofs.Common.{◌≡◌, ◌∙◌, ap, sym, refl, subst, ℕ, ◌+◌, ◌≤◌, List, [], ◌++◌, length, take, arith, Result, Ok, Err, append-nil}
+use Rattle.std.proofs.Common.{sym, subst, ℕ, List, length, take, arith, Result, Ok, Err}
 use Rattle.std.specs.Prelude.{OnOk, OnErr}
 use Rattle.std.proofs.lemmas.List.{take_all}
 use Rattle.std.specs.Io.KnownBytes.{Appends}

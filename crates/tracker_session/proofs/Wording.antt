@@ -1,16 +1,14 @@
 -- Words are one command.
-use Rattle.std.proofs.Common.{◌≡◌, ◌≢◌, ◌∙◌, sym, refl, subst, inl, inr, ℕ, ◌⊎◌, List, [], ◌∷◌}
-use Rattle.std.specs.Prelude.{None, Result, Ok, Err, string_bytes, codes}
+use Rattle.std.proofs.Common.{◌≡◌, ◌∙◌, sym, subst, ℕ, List, [], ◌∷◌}
+use Rattle.std.specs.Prelude.{Result, Ok, Err, string_bytes, codes}
 use Rattle.io_traits.specs.Host.{HostState}
-use Rattle.io_traits.specs.declared.host.Place.{Place}
-use Rattle.io_traits.specs.declared.host.Place.TheVariants as places
 use Rattle.tracker_session.specs.declared.screen.Counts.{Counts}
 use Rattle.tracker_session.specs.declared.status.Status.{Status}
 use Rattle.tracker_session.specs.declared.status.Status.TheVariants.{Done, Usage, Settings, Input, Read, Write, Memory}
 use Rattle.tracker_session.specs.declared.words.Command.{Command}
 use Rattle.tracker_session.specs.declared.words.Command.TheVariants.{Replay}
 use Rattle.tracker_session.specs.Runs.{Ran, Breaks, CommandRan, EndsFor}
-use Rattle.tracker_session.specs.Words.{AreReplay, IsReplay, IsCommand}
+use Rattle.tracker_session.specs.Words.{IsReplay, IsCommand}
 
 five_same : (a b c d e a' b' c' d' e' : List ℕ) → a ∷ b ∷ c ∷ d ∷ e ∷ [] ≡ a' ∷ b' ∷ c' ∷ d' ∷ e' ∷ [] → (b ≡ b') × (c ≡ c') × (d ≡ d')
 five_same a b c d e a' b' c' d' e' h = (cc, cc, cc)

@@ -3,12 +3,11 @@ use Rattle.std.specs.Prelude.{◌≡◌, ⊤, ℕ, List, Option, Some, None, Res
 use Rattle.io_traits.specs.Host.{HostState}
 use Rattle.io_traits.specs.declared.host.Place.TheVariants as places
 use Rattle.admission_log.specs.declared.settings.Settings as admission
-use Rattle.settings_text.specs.Answers as texts
 use Rattle.tracker_session.specs.declared.screen.Counts.{Counts}
 use Rattle.tracker_session.specs.declared.status.Spot.TheVariants as spots
 use Rattle.tracker_session.specs.declared.status.Status.{Status}
-use Rattle.tracker_session.specs.declared.status.Status.TheVariants.{Done, Usage, Settings, Input, Read, Write, Memory}
-use Rattle.tracker_session.specs.Places.{Has, Got, GotFront, HasFailed}
+use Rattle.tracker_session.specs.declared.status.Status.TheVariants.{Input, Read, Write, Memory}
+use Rattle.tracker_session.specs.Places.{Got, GotFront, HasFailed}
 use Rattle.tracker_session.specs.Replay.{Replays}
 
 -- the answer of a replay of itself: its counts, or its fault

@@ -1,5 +1,5 @@
 -- How a command ended.
-use Rattle.std.specs.Prelude.{◌≡◌, ◌≢◌, ◌⊎◌, ℕ, List, Option, Some, None, Ok, Result, Err}
+use Rattle.std.specs.Prelude.{◌≡◌, ◌≢◌, ℕ, List, Option, Some, None, Ok}
 use Rattle.io_traits.specs.Host.{HostState}
 use Rattle.io_traits.specs.declared.host.Place.{Place}
 use Rattle.io_traits.specs.declared.host.Place.TheVariants as places
@@ -8,7 +8,7 @@ use Rattle.admission_log.specs.declared.settings.Settings as admission
 use Rattle.settings_text.specs.Answers as documents
 use Rattle.tracker_session.specs.declared.screen.Counts.{Counts}
 use Rattle.tracker_session.specs.declared.status.Status.{Status}
-use Rattle.tracker_session.specs.declared.status.Status.TheVariants.{Done, Usage, Settings, Input, Read, Write, Memory}
+use Rattle.tracker_session.specs.declared.status.Status.TheVariants.{Done, Usage, Settings, Input, Read}
 use Rattle.tracker_session.specs.Answers.{Replayed}
 use Rattle.tracker_session.specs.Places.{Got, HasFailed}
 use Rattle.tracker_session.specs.Screen.{counts_line}

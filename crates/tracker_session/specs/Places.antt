@@ -10,7 +10,7 @@ use Rattle.io_traits.specs.declared.host.Way.TheVariants as ways
 use Rattle.tracker_session.specs.declared.status.Spot.{Spot}
 use Rattle.tracker_session.specs.declared.status.Spot.TheVariants as spots
 use Rattle.tracker_session.specs.declared.status.Status.{Status}
-use Rattle.tracker_session.specs.declared.status.Status.TheVariants.{Done, Usage, Settings, Input, Read, Write, Memory}
+use Rattle.tracker_session.specs.declared.status.Status.TheVariants.{Read, Write, Memory}
 use Rattle.tracker_session.specs.Inputs.{limit}
 
 -- a front of these octets was appended

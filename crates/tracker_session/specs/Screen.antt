@@ -1,7 +1,6 @@
 -- What the screen says at the end of a command: one line for each way to end.
 use Rattle.std.specs.Prelude.{ℕ, List, [], ◌++◌, codes, Option, Some, None}
 use Rattle.std.specs.Fmt.{decimal}
-use Rattle.settings_text.specs.declared.faults.KeyPath.{KeyPath}
 use Rattle.settings_text.specs.declared.faults.SettingsFault.{SettingsFault}
 use Rattle.settings_text.specs.declared.faults.SettingsFault.TheVariants as faults
 use Rattle.tracker_session.specs.declared.screen.Counts.{Counts}

@@ -1,5 +1,5 @@
 -- How far a replay has come, and what its steps do.
-use Rattle.std.specs.Prelude.{◌≡◌, ◌⊎◌, ⊤, ℕ, List, [], ◌∷◌, ◌++◌, map, Option, Some, None, Result, Ok, Err}
+use Rattle.std.specs.Prelude.{◌≡◌, ◌⊎◌, ℕ, List, [], ◌∷◌, ◌++◌, map}
 use Rattle.io_traits.specs.Host.{HostState}
 use Rattle.io_traits.specs.declared.host.Place.TheVariants as places
 use Rattle.recording.specs.Items.{Item}

@@ -1,11 +1,11 @@
 -- What Screen got of a command.
-use Rattle.std.specs.Prelude.{◌≡◌, ◌⊎◌, ◌≤◌, ⊤, ℕ, List, ◌++◌, length, take}
+use Rattle.std.specs.Prelude.{◌≡◌, ◌⊎◌, ◌≤◌, ℕ, List, ◌++◌, length, take}
 use Rattle.io_traits.specs.Host.{HostState}
 use Rattle.io_traits.specs.declared.host.Place.TheVariants as places
 use Rattle.tracker_session.specs.declared.screen.Counts.{Counts}
 use Rattle.tracker_session.specs.declared.status.Spot.TheVariants as spots
 use Rattle.tracker_session.specs.declared.status.Status.{Status}
-use Rattle.tracker_session.specs.declared.status.Status.TheVariants.{Done, Usage, Settings, Input, Read, Write, Memory}
+use Rattle.tracker_session.specs.declared.status.Status.TheVariants.{Done, Write, Memory}
 use Rattle.tracker_session.specs.Places.{Got, GotFront, HasFailed}
 use Rattle.tracker_session.specs.Screen.{status_line, counts_line}
 

@@ -1,4 +1,3 @@
-use Rattle.std.proofs.Common.{rules, ◌≡◌, List, ℕ, sym, subst, Result, Ok, Err}
 use Rattle.io_traits.specs.declared.host.Place.TheVariants as places
 use Rattle.tracker_session.specs.Words.{texts}
 use Rattle.tracker_session.proofs.Wording.{ran_of, ran_here, ends_for, never_usage}

@@ -1,8 +1,7 @@
-use Rattle.std.proofs.Common.{rules, ◌≡◌, List, ℕ, subst, Err}
+use Rattle.std.proofs.Common.{List, ℕ, subst}
 use Rattle.std.specs.Prelude.{string_bytes}
 use Rattle.tracker_session.specs.Answers.{Answered, ReplayedFront}
-use Rattle.tracker_session.specs.Runs.{RanUnder}
-use Rattle.tracker_session.proofs.Outcomes.{ran_unread, ran_unopened, ran_taken}
+use Rattle.tracker_session.proofs.Outcomes.{ran_taken}
 use Rattle.tracker_session.proofs.batch.replay_under.Goals as goal
 
 pub returns : goal.returns

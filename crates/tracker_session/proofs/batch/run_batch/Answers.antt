@@ -1,7 +1,6 @@
-use Rattle.std.proofs.Common.{rules, ◌≡◌, ◌∙◌, List, ℕ, ap, sym, subst, Result, Ok, Err}
-use Rattle.io_traits.specs.declared.host.Place.TheVariants as places
+use Rattle.std.proofs.Common.{◌≡◌, ◌∙◌, ℕ, ap, sym, subst, Ok, Err}
 use Rattle.tracker_session.specs.declared.status.Status.{Status}
-use Rattle.tracker_session.specs.declared.status.Status.TheVariants.{Done, Input, Memory, Settings}
+use Rattle.tracker_session.specs.declared.status.Status.TheVariants.{Input, Memory, Settings}
 use Rattle.settings_text.specs.declared.faults.SettingsFault.{SettingsFault}
 use Rattle.tracker_session.specs.Runs.{Ran}
 use Rattle.tracker_session.specs.Words.{texts}

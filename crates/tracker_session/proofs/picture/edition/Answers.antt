@@ -1,4 +1,4 @@
-use Rattle.std.proofs.Common.{rules, ◌≡◌, ◌∙◌, ap, sym, subst, ◌+◌, ◌++◌, ◌∷◌, [], List, ℕ, take, true, false}
+use Rattle.std.proofs.Common.{rules, ◌≡◌, ◌∙◌, ap, sym, subst, ◌++◌, ◌∷◌, [], List, ℕ, take, true, false}
 use Rattle.tracker_session.specs.Picture.{is_shown, track_record, track_records}
 use Rattle.tracker_session.specs.Setting.{IsSetting}
 use Rattle.tracker_session.proofs.Pictures.{tracks_shown, tracks_hidden}

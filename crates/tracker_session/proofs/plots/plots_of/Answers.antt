@@ -1,12 +1,9 @@
-use Rattle.std.proofs.Common.{rules, ◌≡◌, ◌∙◌, ap, sym, subst, refl, ◌++◌, ◌∷◌, [], ◌+◌, take, append-nil}
-use Rattle.std.specs.Prelude.{List}
+use Rattle.std.proofs.Common.{◌≡◌, ◌∙◌, ap, sym, subst, ◌++◌, ◌∷◌, [], ◌+◌, take, append-nil}
 use Rattle.std.specs.List.{filter_map, flat_map}
 use Rattle.std.specs.List.Sorted.{IsPermutation}
 use Rattle.std.proofs.lemmas.List.{take_more, take_all}
 use Rattle.std.proofs.lemmas.Grind.{flat_map-append}
 use Rattle.std.proofs.lemmas.List.Elements.{filter_map-append}
-use Rattle.plot_geometry.specs.declared.plots.PlanePlot.{PlanePlot}
-use Rattle.admission_log.specs.declared.events.Event.{Event}
 use Rattle.admission_log.proofs.Rising.{one_rising}
 use Rattle.admission_log.specs.Histories.{admitted_in, last_of}
 use Rattle.admission_log.specs.Plots.{closed_plots}

@@ -1,4 +1,4 @@
-use Rattle.std.proofs.Common.{rules, List, subst, ℕ, sym}
+use Rattle.std.proofs.Common.{List, subst, ℕ}
 use Rattle.std.specs.Prelude.{Option}
 use Rattle.recording.specs.declared.item.Item.{Item}
 use Rattle.recording.specs.Answers.{items_of}

@@ -1,4 +1,4 @@
-use Rattle.std.proofs.Common.{rules, ◌≡◌, ap, sym, subst, List, Result, Ok, Err, Bool, true, false}
+use Rattle.std.proofs.Common.{rules, ◌≡◌, ap, sym, subst, Result, Ok, Err, true, false}
 use Rattle.std.specs.Prelude.{OnErr}
 use Rattle.recording.specs.Answers.{item_of}
 use Rattle.recording.specs.Items.{Item, tick}

@@ -1,4 +1,4 @@
-use Rattle.std.proofs.Common.{rules, ◌≡◌, ◌∙◌, ◌≤◌, refl, Result, Ok, Err, length, arith}
+use Rattle.std.proofs.Common.{rules, ◌∙◌, ◌≤◌, refl, Result, Ok, Err, length}
 use Rattle.std.specs.Prelude.{OnErr}
 use Rattle.io_traits.specs.declared.host.Place.TheVariants as places
 use Rattle.io_traits.proofs.Frames.{WritesOnly_refl, WritesOnly_trans}

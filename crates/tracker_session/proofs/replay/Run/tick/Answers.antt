@@ -1,6 +1,5 @@
-use Rattle.std.proofs.Common.{rules, ◌≡◌, ◌+◌, ◌≤◌, ap}
+use Rattle.std.proofs.Common.{rules, ◌≡◌, ◌≤◌, ap}
 use Rattle.admission_log.specs.Histories.{last_of}
-use Rattle.tracker_session.specs.declared.screen.Counts.{Counts}
 use Rattle.tracker_session.proofs.Tallying.{old_tick_taken}
 use Rattle.tracker_session.proofs.replay.Run.tick.Goals as goal
 
