@@ -8,14 +8,14 @@ use std::rt::Env;
 use std::{env, io};
 use tracker_session::{Status, run_batch};
 
-// The words behind the program's name. One that isn't UTF-8 is in no command.
+// The words behind the program's name. One that isn't UTF-8 is in no command, as no words are none.
 fn words<R: Env + Alloc<A = Global>>(rt: &R) -> Result<Vec<String>, Status> {
     match env::args(rt) {
         Ok(arguments) => match arguments.skip(1).collect(rt.alloc()) {
             Ok(words) => Ok(words),
             Err(_) => Err(Status::Memory),
         },
-        Err(error) if error.kind() == io::ErrorKind::InvalidData => Err(Status::Usage),
+        Err(error) if error.kind() == io::ErrorKind::InvalidData => Ok(Vec::new(rt.alloc())),
         Err(_) => Err(Status::Memory),
     }
 }
