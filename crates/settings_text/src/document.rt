@@ -6,7 +6,7 @@ ghost use Rattle.admission_log.specs.declared.settings.Settings.{Settings};
 ghost use Rattle.settings_text.specs.declared.faults.SettingsFault.{SettingsFault};
 ghost use Rattle.settings_text.specs.declared.faults.SettingsFault.TheVariants.{Syntax};
 ghost use Rattle.std.specs.List.{list_all};
-ghost use Rattle.settings_text.specs.Keys.{names};
+ghost use Rattle.settings_text.specs.Tables.{names};
 ghost use Rattle.settings_text.specs.Documents.{is_known, is_part};
 ghost use Rattle.settings_text.specs.Answers.{IsDocument, IsSettings, IsFaultOf, IsAnswer, OnFault, Agrees};
 

@@ -1,6 +1,6 @@
 //! A number in the type of its setting, once its range is known.
 ghost use Rattle.std.specs.Prelude.{◌≡◌, pos, negsuc};
-ghost use Rattle.settings_text.specs.Keys.{IsBetween};
+ghost use Rattle.settings_text.specs.Tables.{IsBetween};
 
 pub fn to_u8(number: &i64) -> u8
     requires { IsBetween (pos 0) (pos 255) number.now }
