@@ -44,7 +44,9 @@ fn tells_the_system_first(rt: HostRuntime) {
     assert!(rt;
         fault(alloc, "system = 1\n", "radar = 1\n") == Some(SettingsFault::Kind(system_key(1)))
     );
-    assert!(rt; fault(alloc, "[[system]]\nsac = 1\n", RADAR) == Some(SettingsFault::Kind(system_key(1))));
+    assert!(rt;
+        fault(alloc, "[[system]]\nsac = 1\n", RADAR) == Some(SettingsFault::Kind(system_key(1)))
+    );
     assert!(rt;
         fault(alloc, "radar = 1\n", "[system]\nsac = 1\nsic = 256\n")
             == Some(SettingsFault::Range(system_key(2)))
@@ -74,14 +76,19 @@ fn tells_the_radars_next(rt: HostRuntime) {
 fn tells_a_33rd_radar(rt: HostRuntime) -> Result<(), AllocError> {
     let alloc = rt.alloc();
     let range = Some(SettingsFault::Range(radar_key(32, 8)));
-    for more in ["1", "[]", "{}", "{ sac = 256 }", "{ extra = 1 }", "1, 1, { sac = true }"] {
+    for more in [
+        "1",
+        "[]",
+        "{}",
+        "{ sac = 256 }",
+        "{ extra = 1 }",
+        "1, 1, { sac = true }",
+    ] {
         let text = entries(alloc, 32, more)?;
         assert!(rt; fault(alloc, text.as_str(), SYSTEM) == range);
     }
     let text = entries(alloc, 31, "1, 1")?;
-    assert!(rt;
-        fault(alloc, text.as_str(), SYSTEM) == Some(SettingsFault::Kind(radar_key(31, 8)))
-    );
+    assert!(rt; fault(alloc, text.as_str(), SYSTEM) == Some(SettingsFault::Kind(radar_key(31, 8))));
     Ok(())
 }
 
@@ -105,14 +112,12 @@ fn tells_unknown_keys(rt: HostRuntime) -> Result<(), AllocError> {
 #[test]
 fn tells_the_least_radar_that_repeats(rt: HostRuntime) -> Result<(), AllocError> {
     let alloc = rt.alloc();
-    let second = "[[radar]]\nsac = 1\nsic = 2\nx = 0\ny = 0\nrange_sigma = 50\nazimuth_sigma = 12\n";
+    let second =
+        "[[radar]]\nsac = 1\nsic = 2\nx = 0\ny = 0\nrange_sigma = 50\nazimuth_sigma = 12\n";
     let radars = format!(in alloc; "{RADAR}{second}{second}{RADAR}")?;
     assert!(rt;
         fault(alloc, SYSTEM, radars.as_str())
-            == Some(SettingsFault::Duplicate {
-                radar: 2,
-                first: 1
-            })
+            == Some(SettingsFault::Duplicate { radar: 2, first: 1 })
     );
     Ok(())
 }

@@ -59,7 +59,8 @@ fn reads_all_keys(rt: HostRuntime) {
 #[test]
 fn reads_inline_tables(rt: HostRuntime) -> Result<(), AllocError> {
     let alloc = rt.alloc();
-    let tables = "[[radar]]\nsac = 1\nsic = 0\nx = 0\ny = 0\nrange_sigma = 50\nazimuth_sigma = 12\n";
+    let tables =
+        "[[radar]]\nsac = 1\nsic = 0\nx = 0\ny = 0\nrange_sigma = 50\nazimuth_sigma = 12\n";
     let inline = entries(alloc, 1, "")?;
     let Some(Ok(settings)) = read(alloc, inline.as_str(), SYSTEM) else {
         assert!(rt; false);
