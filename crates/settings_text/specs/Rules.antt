@@ -1,7 +1,9 @@
--- The names of the keys.
-use Rattle.std.specs.Prelude.{ℕ, List, codes}
+-- What a rule of the program's table says of its key, in the words of the keys' list.
+use Rattle.std.specs.Prelude.{ℕ, ℤ, List, map, Option, Some, None, codes}
 use Rattle.settings_text.specs.declared.keys.Name.{Name}
 use Rattle.settings_text.specs.declared.keys.Name.TheVariants.{Sac, Sic, Service, Window, Hits, KeepTentative, KeepConfirmed, X, Y, Height, North, RangeGain, RangeBias, AzimuthBias, TimeBias, RangeSigma, AzimuthSigma}
+use Rattle.settings_text.specs.declared.keys.KeyRule.{KeyRule}
+use Rattle.settings_text.specs.Keys.{Otherwise, required, default, Key}
 
 -- the name as it is written
 abbrev pub text_of : Name → List ℕ
@@ -22,3 +24,15 @@ text_of AzimuthBias = codes "azimuth_bias"
 text_of TimeBias = codes "time_bias"
 text_of RangeSigma = codes "range_sigma"
 text_of AzimuthSigma = codes "azimuth_sigma"
+
+abbrev pub otherwise_of : Option ℤ → Otherwise
+otherwise_of None = required
+otherwise_of (Some number) = default number
+
+-- the key of a rule
+abbrev pub key_of : KeyRule → Key
+key_of rule = record { number = rule.number; name = text_of rule.name; least = rule.least; greatest = rule.greatest; otherwise = otherwise_of rule.default }
+
+-- the keys of some rules
+abbrev pub keys_of : List KeyRule → List Key
+keys_of = map key_of
