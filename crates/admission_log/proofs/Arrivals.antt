@@ -1,14 +1,12 @@
 -- The arrivals of a legal log are the numbers from 0 on.
-use Rattle.std.proofs.Common.{◌≡◌, ◌∙◌, ap, sym, subst, refl, ℕ, zero, suc, ◌+◌, ◌<◌, ◌≤◌, ◌∷◌, ◌++◌, length, map, get_or, arith, append-nil}
+use Rattle.std.proofs.Common.{◌≡◌, ◌∙◌, ap, sym, refl, ℕ, zero, suc, ◌+◌, ◌∷◌, ◌++◌, length, map, arith, append-nil}
 use Rattle.std.specs.List.{range_with_len}
-use Rattle.std.proofs.lemmas.List.{map-append, take_all}
-use Rattle.std.proofs.lemmas.Option.{slice_get-get_or}
-use Rattle.std.proofs.Math.Seq.{take-suc}
+use Rattle.std.proofs.lemmas.List.{map-append}
 use Rattle.admission_log.specs.declared.settings.Settings.{Settings}
 use Rattle.admission_log.specs.declared.events.Admitted.{Admitted}
 use Rattle.admission_log.specs.declared.events.Event.{Event}
 use Rattle.admission_log.specs.declared.events.Event.TheVariants.{Deliver, Tick, Publish}
-use Rattle.admission_log.specs.Histories.{History, appended, first, admitted_in, admitted_of, next_of}
+use Rattle.admission_log.specs.Histories.{History, appended, admitted_in, admitted_of, next_of}
 use Rattle.admission_log.specs.Legality.{IsLegal, IsLegalEvent}
 use Rattle.admission_log.proofs.Growing.{admitted-appended, next-grown}
 use Rattle.admission_log.proofs.Fronts.{by_events}

@@ -1,15 +1,14 @@
 -- The times of day of service messages.
-use Rattle.std.proofs.Common.{◌≡◌, refl, sym, subst, ℕ, ◌<◌, List, [], ◌∷◌, Option, Some, None}
-use Rattle.std.specs.Prelude.{map, All, IfSome}
+use Rattle.std.proofs.Common.{◌≡◌, sym, subst, ℕ, ◌<◌, List, [], ◌∷◌, Option, Some, None}
+use Rattle.std.specs.Prelude.{All, IfSome}
 use Rattle.std.specs.List.{AllByRecursion}
 use Rattle.std.specs.Option.{ForSome}
 use Rattle.trk_base.specs.Numbers.{day}
 use Rattle.trk_base.specs.Ranges.{IsTimeOfDay}
 use Rattle.std.proofs.lemmas.List.Elements.{All-from_recursion}
 use Rattle.asterix_frame.specs.declared.tables.Uap.TheVariants.{Cat034}
-use Rattle.asterix_frame.specs.declared.walk.ItemSpans.{ItemSpans}
 use Rattle.asterix_frame.specs.DataRecords.{DataRecord, time_of}
-use Rattle.asterix_frame.specs.Bodies.{AreDataRecords, HaveDataRecords, parts_at}
+use Rattle.asterix_frame.specs.Bodies.{AreDataRecords}
 use Rattle.asterix_frame.proofs.DataItems.{time_in_day}
 use Rattle.cat034_in.specs.declared.service.Service.{Service}
 use Rattle.cat034_in.specs.Services.{service_of, services_of, IsTimed}

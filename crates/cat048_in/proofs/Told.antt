@@ -6,11 +6,8 @@ use Rattle.trk_base.specs.Numbers.{day}
 use Rattle.asterix_frame.specs.declared.tables.Uap.TheVariants.{Cat048}
 use Rattle.asterix_frame.proofs.DataItems.{time_in_day}
 use Rattle.cat048_in.specs.Values.{below_day}
-use Rattle.asterix_frame.specs.declared.tables.Uap.{Uap}
-use Rattle.asterix_frame.specs.declared.walk.ItemSpans.{ItemSpans}
 use Rattle.asterix_frame.specs.DataRecords.{DataRecord, time_of}
-use Rattle.asterix_frame.specs.Bodies.{AreDataRecords, HaveDataRecords, parts_at}
-use Rattle.cat048_in.specs.declared.report.Report.{Report}
+use Rattle.asterix_frame.specs.Bodies.{AreDataRecords}
 use Rattle.cat048_in.specs.Reports.{report_of, reports_of}
 
 in_day : (time : Option ℕ) → IfSome time (λ t. t < day) → below_day time ≡ time
