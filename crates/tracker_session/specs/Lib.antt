@@ -1,5 +1,6 @@
 pub mod Answers
 pub mod Closing
+pub mod Counting
 pub mod Ends
 pub mod Inputs
 pub mod Judging

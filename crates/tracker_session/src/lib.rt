@@ -10,6 +10,7 @@ mod replay;
 mod screen;
 mod status;
 mod streams;
+mod tally;
 mod words;
 
 pub use batch::run_batch;
