@@ -66,18 +66,21 @@ pub record Covers (earlier log : History) (items : List Item) : Type 0 where
   pub deliveries : count_by is_delivery log.events ≤ count_by is_delivery earlier.events + count_by is_datagram items
   pub ticks : count_by is_tick_taken log.events ≤ count_by is_tick_taken earlier.events + count_by is_tick items
 
-at_most_one : (b : Bool) → cond b 1 0 ≤ 1
+abbrev bit : Bool → ℕ
+bit b = cond b 1 0
+
+at_most_one : (b : Bool) → bit b ≤ 1
 at_most_one true = omega arith
 at_most_one false = omega arith
 
-deliveries_one : (settings : Settings) (log : History) (item : Item) (added : Option Event) → Adds settings log item added → count_by is_delivery (log_with log added).events ≤ count_by is_delivery log.events + cond (is_datagram item) 1 0
+deliveries_one : (settings : Settings) (log : History) (item : Item) (added : Option Event) → Adds settings log item added → count_by is_delivery (log_with log added).events ≤ count_by is_delivery log.events + bit (is_datagram item)
 deliveries_one settings log (datagram feed octets) (Some event) h = omega (arith, sum_by_push (λ e. cond (is_delivery e) 1 0) log.events event, at_most_one (is_delivery event))
 deliveries_one settings log (datagram feed octets) None h = omega arith
-deliveries_one settings log (tick time) (Some event) h = (let none : cond (is_delivery event) 1 0 ≡ 0 = ap (λ e. cond (is_delivery e) 1 0) h.1 in omega (arith, sum_by_push (λ e. cond (is_delivery e) 1 0) log.events event, none))
+deliveries_one settings log (tick time) (Some event) h = (let none : bit (is_delivery event) ≡ 0 = ap (λ e. bit (is_delivery e)) h.1 in omega (arith, sum_by_push (λ e. cond (is_delivery e) 1 0) log.events event, none))
 deliveries_one settings log (tick time) None h = omega arith
 
-ticks_one : (settings : Settings) (log : History) (item : Item) (added : Option Event) → Adds settings log item added → count_by is_tick_taken (log_with log added).events ≤ count_by is_tick_taken log.events + cond (is_tick item) 1 0
-ticks_one settings log (datagram feed octets) (Some event) h = (let none : cond (is_tick_taken event) 1 0 ≡ 0 = ap (λ e. cond (is_tick_taken e) 1 0) h.2 in omega (arith, sum_by_push (λ e. cond (is_tick_taken e) 1 0) log.events event, none))
+ticks_one : (settings : Settings) (log : History) (item : Item) (added : Option Event) → Adds settings log item added → count_by is_tick_taken (log_with log added).events ≤ count_by is_tick_taken log.events + bit (is_tick item)
+ticks_one settings log (datagram feed octets) (Some event) h = (let none : bit (is_tick_taken event) ≡ 0 = ap (λ e. bit (is_tick_taken e)) h.2 in omega (arith, sum_by_push (λ e. cond (is_tick_taken e) 1 0) log.events event, none))
 ticks_one settings log (datagram feed octets) None h = omega arith
 ticks_one settings log (tick time) (Some event) h = omega (arith, sum_by_push (λ e. cond (is_tick_taken e) 1 0) log.events event, at_most_one (is_tick_taken event))
 ticks_one settings log (tick time) None h = omega arith
