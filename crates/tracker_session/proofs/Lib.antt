@@ -1,4 +1,5 @@
 pub mod Closed
+pub mod Faults
 pub mod Finishing
 pub mod Frames
 pub mod Inputs

@@ -66,7 +66,7 @@ pub record Covers (earlier log : History) (items : List Item) : Type 0 where
   pub deliveries : count_by is_delivery log.events ≤ count_by is_delivery earlier.events + count_by is_datagram items
   pub ticks : count_by is_tick_taken log.events ≤ count_by is_tick_taken earlier.events + count_by is_tick items
 
-abbrev bit : Bool → ℕ
+abbrev pub bit : Bool → ℕ
 bit b = cond b 1 0
 
 at_most_one : (b : Bool) → bit b ≤ 1
