@@ -1,7 +1,9 @@
 pub mod Closed
+pub mod Faults
 pub mod Finishing
 pub mod Frames
 pub mod Inputs
+pub mod Logs
 pub mod Outcomes
 pub mod Outputs
 pub mod Pictures
@@ -10,7 +12,7 @@ pub mod Runs
 pub mod Settings
 pub mod SomeReplay
 pub mod Stepping
-pub mod Takings
 pub mod Tallying
 pub mod Telling
 pub mod Wording
+pub mod Worked

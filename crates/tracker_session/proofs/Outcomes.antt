@@ -51,9 +51,8 @@ replays_alike settings a b output counts fault (inr h) r = record {
   start = r.start;
   items = r.items;
   reading = reading_alike a b r.start r.items fault h r.reading;
-  taken = r.taken;
-  items_are = r.items_are;
-  are_taken = r.are_taken;
+  log = r.log;
+  log_is = r.log_is;
   output_is = r.output_is;
   counts_are = r.counts_are;
 }

@@ -1,6 +1,8 @@
 pub mod Answers
 pub mod Closing
+pub mod Counting
 pub mod Ends
+pub mod Faulty
 pub mod Inputs
 pub mod Judging
 pub mod Picture

@@ -40,6 +40,22 @@ const TWO_TRACKS: [u8; 35] = [
     0x95, 0x0C, 0x01, 0x63, 0x46, 0x50, 0x80, 0x00, 0x00, 0x00, 0x00, 0x0E, 0x78, 0x00, 0x02, 0x80,
 ];
 
+/// The plot of a second datagram, read behind the first tick, is in the second edition alone, at its tick.
+const SECOND_PLOT: [u8; 24] = [
+    0x02, 0x00, 0x00, 0x0E, //
+    0x30, 0x00, 0x0E, 0xF0, 0x01, 0x01, 0x46, 0x50, 0x8A, 0xA0, 0x01, 0x00, 0x00, 0x00, //
+    0x01, 0x00, 0x00, 0x46, 0x51, 0x00,
+];
+
+/// The editions of both ticks.
+const TWO_EDITIONS: [u8; 54] = [
+    0x3E, 0x00, 0x13, //
+    0x95, 0x0C, 0x01, 0x63, 0x46, 0x50, 0x80, 0x00, 0x00, 0x00, 0x00, 0x0E, 0x78, 0x00, 0x01, 0x80, //
+    0x3E, 0x00, 0x23, //
+    0x95, 0x0C, 0x01, 0x63, 0x46, 0x51, 0x00, 0x00, 0x00, 0x00, 0x00, 0x0E, 0x78, 0x00, 0x01, 0x80, //
+    0x95, 0x0C, 0x01, 0x63, 0x46, 0x51, 0x00, 0x00, 0x00, 0x00, 0x00, 0x0E, 0x78, 0x00, 0x02, 0x80,
+];
+
 const USAGE: &str = "usage: tracker replay, check, scene, exercise or serve\n";
 
 const WORDS: [&str; 5] = ["replay", "a", "b", "c", "d"];
@@ -91,6 +107,18 @@ fn an_unknown_radar(rt: HostRuntime) -> Result<(), Fail> {
         "editions 1 admitted 2 unknown 1 early 0 ahead 0 notplots 0 malformed 0 other 0 old 0\n";
     let given: (&[u8], &[u8], &[u64]) = (SETTINGS, &UNKNOWN_RADAR, &[]);
     compare(&rt, rt.alloc(), given, Status::Done, &TWO_TRACKS, screen)
+}
+
+/// Each tick gives the edition of the log up to it.
+#[test]
+fn two_ticks(rt: HostRuntime) -> Result<(), Fail> {
+    let alloc = rt.alloc();
+    let mut input = Vec::from_slice(alloc, &ONE_PLOT)?;
+    input.extend_from_slice(&SECOND_PLOT)?;
+    let screen =
+        "editions 2 admitted 2 unknown 0 early 0 ahead 0 notplots 0 malformed 0 other 0 old 0\n";
+    let given: (&[u8], &[u8], &[u64]) = (SETTINGS, &input, &[]);
+    compare(&rt, alloc, given, Status::Done, &TWO_EDITIONS, screen)
 }
 
 /// The datagram's block alone has the same picture.
