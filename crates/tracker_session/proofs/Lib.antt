@@ -1,5 +1,7 @@
 pub mod Closed
+pub mod Deciding
 pub mod Finishing
+pub mod FinishingCheck
 pub mod Frames
 pub mod Inputs
 pub mod Outcomes
@@ -13,4 +15,5 @@ pub mod Stepping
 pub mod Takings
 pub mod Tallying
 pub mod Telling
+pub mod Verdicts
 pub mod Wording

@@ -2,6 +2,7 @@
 ghost use Rattle.std.specs.Prelude.{◌≡◌, ◌<◌, ℕ, List, All, Option};
 ghost use Rattle.admission_log.specs.declared.settings.Settings.{Settings};
 ghost use Rattle.recording.specs.Items.{Item};
+ghost use Rattle.tracker_session.specs.Checking.{Checks, HasVerdict, Verdict};
 ghost use Rattle.tracker_session.specs.Inputs.{HasReading, IsRead};
 ghost use Rattle.tracker_session.specs.Replay.{HasReplay, Replays};
 ghost use Rattle.tracker_session.specs.declared.screen.Counts.{Counts};
@@ -16,4 +17,10 @@ pub fn one_reading()
 pub fn one_replay()
     ensures some { (settings : Settings) (octets : List ℕ) → All (λ octet. octet < 256) octets → HasReplay settings octets }
     ensures one { (settings : Settings) (octets a b : List ℕ) (c d : Counts) (f g : Option ℕ) → Replays settings octets a c f → Replays settings octets b d g → (a ≡ b) × (c ≡ d) × (f ≡ g) }
+{}
+
+/// Octets have exactly one verdict as a price file: so many certificates, all of which prove; or one that is the first that doesn't; or one fault.
+pub fn one_check()
+    ensures some { (octets : List ℕ) → All (λ octet. octet < 256) octets → HasVerdict octets }
+    ensures one { (octets : List ℕ) (v w : Verdict) → Checks octets v → Checks octets w → v ≡ w }
 {}
