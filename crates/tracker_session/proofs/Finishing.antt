@@ -18,7 +18,7 @@ use Rattle.tracker_session.specs.declared.status.Spot.TheVariants as spots
 use Rattle.tracker_session.specs.declared.status.Status.{Status}
 use Rattle.tracker_session.specs.declared.status.Status.TheVariants.{Done, Usage, Settings, Input, Read, Write, Memory, NotProved}
 use Rattle.tracker_session.specs.Answers.{IsAnswer, ReplayedFront}
-use Rattle.tracker_session.specs.Ends.{AreBound, DoneUnder, EndOfReplay, InputUnder, IsEarly, IsEnd, NoFailure, status_at}
+use Rattle.tracker_session.specs.Ends.{AreBound, DoneUnder, EndOfReplay, InputUnder, IsEarly, IsEnd, IsOfReplay, NoFailure, status_at}
 use Rattle.tracker_session.specs.Places.{Has, BoundAtMost, AppendsFront, HasFailed, UsesFour}
 use Rattle.tracker_session.specs.Inputs.{limit}
 use Rattle.tracker_session.specs.Replay.{Replays}
@@ -168,6 +168,16 @@ line_early line (Write spot) mid new told is = is
 line_early line Memory mid new told is = is
 line_early line (NotProved i o) mid new told is = is
 
+line_of : (line : List ℕ) (t : Status) (mid new : HostState) → LineTold line t mid new → IsOfReplay t
+line_of line Done mid new told = tt
+line_of line Usage mid new told = told
+line_of line (Settings f) mid new told = tt
+line_of line (Input offset) mid new told = tt
+line_of line (Read spot) mid new told = tt
+line_of line (Write spot) mid new told = tt
+line_of line Memory mid new told = tt
+line_of line (NotProved i o) mid new told = told
+
 pub end_done : (settings input output : List ℕ) (counts : Counts) (t : Status) (old mid new : HostState) → Ran settings input output (Ok counts) old mid → LineTold (counts_line counts) t mid new → WritesOnly places.Screen mid new → EndOfReplay settings input output t old new
 end_done settings input output counts t old mid new ran told only =
     let got = screen_got old mid ran.uses in
@@ -180,7 +190,7 @@ end_done settings input output counts t old mid new ran told only =
       front = λ document octets given hs is hi. front_still given octets old mid new only (ran.front document octets given hs is hi);
       read = λ spot e. absurd (never (Read spot) e);
       write = λ spot e. inr ((never (Write spot) e).0, line_failed old mid new faults (never (Write spot) e).1.failed);
-      certificates = λ i o e. never (NotProved i o) e;
+      of_replay = line_of (counts_line counts) t mid new told;
       complete_settings = λ document fault hs is none memory. absurd (settings_of_ok settings input output counts old mid document fault ran hs is);
       complete = λ document octets out given c fault hs is hi r none memory. complete_ok settings input output counts c t old mid new document octets out given fault ran faults told hs is hi r none memory;
       bound = bound_still settings input output (Ok counts) old mid new ran only;
@@ -203,6 +213,16 @@ end_answer (Read spot) old mid h is = is
 end_answer (Write spot) old mid h is = is
 end_answer Memory old mid h is = is
 end_answer (NotProved i o) old mid h is = is
+
+breaks_of : (s : Status) (old mid : HostState) → Breaks (Err s) old mid → IsOfReplay s
+breaks_of (Settings f) old mid h = tt
+breaks_of (Read spot) old mid h = tt
+breaks_of Usage old mid h = h
+breaks_of (Input offset) old mid h = tt
+breaks_of Done old mid h = tt
+breaks_of (Write spot) old mid h = tt
+breaks_of Memory old mid h = tt
+breaks_of (NotProved i o) old mid h = h
 
 early_before : (s : Status) (old mid : HostState) → Breaks (Err s) old mid → IsEarly s → IsBeforeOutput (Err s)
 early_before (Settings f) old mid h is = tt
@@ -241,7 +261,7 @@ end_told settings input output s old mid new ran told only =
       front = λ document octets given hs is hi. front_still given octets old mid new only (ran.front document octets given hs is hi);
       read = λ spot e. read_still spot old mid new only (causes (Read spot) e);
       write = λ spot e. inl ((causes (Write spot) e).0, failed_still places.Output old mid new (λ x. cc) only (causes (Write spot) e).1);
-      certificates = λ i o e. causes (NotProved i o) e;
+      of_replay = breaks_of s old mid ran.causes;
       complete_settings = λ document fault hs is none memory. complete_settings settings input output s old mid new document fault ran only hs is none memory;
       complete = λ document octets out given c fault hs is hi r none memory. complete_err settings input output s c old mid new document octets out given fault ran only hs is hi r none memory;
       bound = bound_still settings input output (Err s) old mid new ran only;
@@ -270,9 +290,6 @@ read_memory spot e = cc
 write_memory : (spot : Spot) → Memory ≡ Write spot → ⊥
 write_memory spot e = cc
 
-certificate_memory : (i o : ℕ) → Memory ≢ NotProved i o
-certificate_memory i o e = cc
-
 pub end_memory : (settings input output : List ℕ) (r : Result Counts Status) (old mid new : HostState) → Ran settings input output r old mid → Told (status_line Memory) mid new → WritesOnly places.Screen mid new → EndOfReplay settings input output Memory old new
 end_memory settings input output r old mid new ran told only =
     record {
@@ -282,7 +299,7 @@ end_memory settings input output r old mid new ran told only =
       front = λ document octets given hs is hi. front_still given octets old mid new only (ran.front document octets given hs is hi);
       read = λ spot e. absurd (read_memory spot e);
       write = λ spot e. absurd (write_memory spot e);
-      certificates = certificate_memory;
+      of_replay = tt;
       complete_settings = λ document fault hs is none memory. absurd (memory refl);
       complete = λ document octets out given c fault hs is hi k none memory. absurd (memory refl);
       bound = bound_still settings input output r old mid new ran only;

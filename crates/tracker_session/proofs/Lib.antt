@@ -7,6 +7,7 @@ pub mod Inputs
 pub mod Outcomes
 pub mod Outputs
 pub mod Pictures
+pub mod Provings
 pub mod Running
 pub mod Runs
 pub mod Settings

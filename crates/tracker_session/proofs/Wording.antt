@@ -3,10 +3,11 @@ use Rattle.std.proofs.Common.{◌≡◌, ◌∙◌, sym, subst, inl, inr, ℕ, L
 use Rattle.std.specs.Prelude.{string_bytes, codes}
 use Rattle.io_traits.specs.Host.{HostState}
 use Rattle.tracker_session.specs.declared.status.Status.{Status}
+use Rattle.tracker_session.specs.declared.status.Status.TheVariants.{Usage}
 use Rattle.tracker_session.specs.declared.words.Command.{Command}
 use Rattle.tracker_session.specs.declared.words.Command.TheVariants.{Replay, Check}
-use Rattle.tracker_session.specs.CheckEnds.{CommandEnded, EndOfCheck}
-use Rattle.tracker_session.specs.Ends.{EndOfReplay}
+use Rattle.tracker_session.specs.CheckEnds.{CheckCause, CommandEnded, EndOfCheck}
+use Rattle.tracker_session.specs.Ends.{EndOfReplay, IsOfReplay}
 use Rattle.tracker_session.specs.Words.{AreCommand, IsReplay, IsCheck, IsCommand}
 
 replay_same : (a b c d e a' b' c' d' e' : List ℕ) → a ∷ b ∷ c ∷ d ∷ e ∷ [] ≡ a' ∷ b' ∷ c' ∷ d' ∷ e' ∷ [] → (b ≡ b') × (c ≡ c') × (d ≡ d')
@@ -32,3 +33,7 @@ replay_of words (Check p) status old new c h settings input output k = absurd (o
 pub check_of : (words : List (List ℕ)) (command : Command) (status : Status) (old new : HostState) → IsCommand words command → CommandEnded command status old new → (prices : List ℕ) → IsCheck words prices → EndOfCheck prices status old new
 check_of words (Check p) status old new c h prices k = subst (λ (x : List ℕ). EndOfCheck x status old new) (check_same (codes "check") (string_bytes p) (codes "check") prices (sym c.whole ∙ k.whole)) h
 check_of words (Replay s i o p w) status old new c h prices k = absurd (other_length (codes "replay") (string_bytes s) (string_bytes i) (string_bytes o) c.replay.prices (codes "check") prices (sym c.replay.whole ∙ k.whole))
+
+pub never_usage : (command : Command) (status : Status) (old new : HostState) → CommandEnded command status old new → status ≡ Usage → ⊥
+never_usage (Replay s i o p w) status old new h e = subst IsOfReplay e h.of_replay
+never_usage (Check p) status old new h e = subst (λ (x : Status). CheckCause x old new) e h.cause

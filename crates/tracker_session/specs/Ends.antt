@@ -70,6 +70,12 @@ IsEarly (Settings fault) = Unit {0}
 IsEarly (Read spot) = Unit {0}
 IsEarly _ = ⊥
 
+-- neither of other words nor of a price file
+abbrev pub IsOfReplay : Status → Type 0
+IsOfReplay Usage = ⊥
+IsOfReplay (NotProved index offset) = ⊥
+IsOfReplay _ = Unit {0}
+
 -- What came of a replay of settings, an input and an output with these names.
 pub record EndOfReplay (settings input output : List ℕ) (status : Status) (old new : HostState) : Type 0 where
   -- A fault of the settings is the first one of what Settings had.
@@ -82,10 +88,10 @@ pub record EndOfReplay (settings input output : List ℕ) (status : Status) (old
   -- At every answer Output got a front of it.
   pub front : (document octets : List ℕ) (given : admission.Settings) → Has places.Settings old document → documents.IsAnswer document (Ok given) → Has places.Input old octets → ReplayedFront given octets old new
 
-  -- A place is told only where it failed, and no certificate is.
+  -- A place is told only where it failed, and nothing of other words or of a price file is.
   pub read : (spot : Spot) → status ≡ Read spot → ((spot ≡ spots.Settings) × HasFailed places.Settings old new) ⊎ ((spot ≡ spots.Input) × HasFailed places.Input old new)
   pub write : (spot : Spot) → status ≡ Write spot → ((spot ≡ spots.Output) × HasFailed places.Output old new) ⊎ ((spot ≡ spots.Screen) × HasFailed places.Screen old new)
-  pub certificates : (index offset : ℕ) → status ≢ NotProved index offset
+  pub of_replay : IsOfReplay status
 
   -- Where no place failed and memory isn't wanting, the answer is that of the settings and of the replay.
   pub complete_settings : (document : List ℕ) (fault : SettingsFault) → Has places.Settings old document → documents.IsAnswer document (Err fault) → NoFailure old new → status ≢ Memory → status ≡ Settings fault
