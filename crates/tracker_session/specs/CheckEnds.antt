@@ -61,21 +61,16 @@ pub record PricesBound (prices : List ℕ) (old new : HostState) : Type 0 where
 pub record EndOfCheck (prices : List ℕ) (status : Status) (old new : HostState) : Type 0 where
   -- The status is the verdict on what Prices had: all of it in the grammar and within the limit, and then each certificate.
   pub verdict : (octets : List ℕ) → Has places.Prices old octets → Says octets status old new
-
   -- Where no place failed and memory isn't wanting, it is.
   pub complete : (octets : List ℕ) (verdict : Verdict) → Has places.Prices old octets → Checks octets verdict → NoFailure old new → status ≢ Memory → status ≡ status_of verdict
-
   -- A place is told only where it failed, and no other status comes.
   pub cause : CheckCause status old new
-
   -- Prices is bound at most once, to its word. At a verdict it is, and was read to its end or past the limit.
   pub bound : BoundAtMost (new.bound places.Prices) ways.Read prices
   pub faultless : IsVerdict status → PricesBound prices old new
   pub whole : IsVerdict status → (octets : List ℕ) → Has places.Prices old octets → length octets ≤ limit → IsEmpty (new.left places.Prices)
-
   -- Screen got the line of the number of certificates at Done, and else the text of the status, cut short only where Screen failed.
   pub screen : ToldAtEnd proved_line status old new
-
   -- No other place is bound, read or written.
   pub uses : UsesPricesAndScreen old new
 

@@ -80,34 +80,26 @@ IsOfReplay _ = Unit {0}
 pub record EndOfReplay (settings input output : List ℕ) (status : Status) (old new : HostState) : Type 0 where
   -- A fault of the settings is the first one of what Settings had.
   pub settings_fault : (fault : SettingsFault) → status ≡ Settings fault → (document : List ℕ) → Has places.Settings old document → documents.IsAnswer document (Err fault)
-
   -- At Done Output got exactly the output of the replay, and Screen the line of its counts; at Input Output got exactly that of the items before the fault.
   pub done : status ≡ Done → (document octets : List ℕ) → Has places.Settings old document → Has places.Input old octets → DoneUnder document octets old new
   pub input_fault : (offset : ℕ) → status ≡ Input offset → (document octets : List ℕ) → Has places.Settings old document → Has places.Input old octets → InputUnder document octets offset old new
-
   -- At every answer Output got a front of it.
   pub front : (document octets : List ℕ) (given : admission.Settings) → Has places.Settings old document → documents.IsAnswer document (Ok given) → Has places.Input old octets → ReplayedFront given octets old new
-
   -- A place is told only where it failed, and nothing of other words or of a price file is.
   pub read : (spot : Spot) → status ≡ Read spot → ((spot ≡ spots.Settings) × HasFailed places.Settings old new) ⊎ ((spot ≡ spots.Input) × HasFailed places.Input old new)
   pub write : (spot : Spot) → status ≡ Write spot → ((spot ≡ spots.Output) × HasFailed places.Output old new) ⊎ ((spot ≡ spots.Screen) × HasFailed places.Screen old new)
   pub of_replay : IsOfReplay status
-
   -- Where no place failed and memory isn't wanting, the answer is that of the settings and of the replay.
   pub complete_settings : (document : List ℕ) (fault : SettingsFault) → Has places.Settings old document → documents.IsAnswer document (Err fault) → NoFailure old new → status ≢ Memory → status ≡ Settings fault
   pub complete : (document octets out : List ℕ) (given : admission.Settings) (counts : Counts) (fault : Option ℕ) → Has places.Settings old document → documents.IsAnswer document (Ok given) → Has places.Input old octets → Replays given octets out counts fault → NoFailure old new → status ≢ Memory → status ≡ status_at fault
-
   -- Each place is bound at most once, to its own word; Output only behind all reading.
   pub bound : BoundAtMost (new.bound places.Settings) ways.Read settings × BoundAtMost (new.bound places.Input) ways.Read input × BoundAtMost (new.bound places.Output) ways.Write output
   pub order : IsEarly status → IsUntouched old new
-
   -- At the two answers of a replay they are bound and read to their end, or past the limit.
   pub faultless : IsEnd status → AreBound settings input output old new
   pub whole_settings : IsEnd status → (document : List ℕ) → Has places.Settings old document → length document ≤ limit → IsEmpty (new.left places.Settings)
   pub whole : IsEnd status → (octets : List ℕ) → Has places.Input old octets → length octets ≤ limit → IsEmpty (new.left places.Input)
-
   -- Screen got the line of the counts at Done, and else the text of the status, cut short only where Screen failed.
   pub screen : ToldAtEnd counts_line status old new
-
   -- No other place is bound, read or written; Settings and Input aren't written, and Output and Screen aren't read.
   pub uses : UsesFour old new
