@@ -4,7 +4,6 @@ use Rattle.std.specs.Prelude.{Option, Some, None, Result, Ok, Err}
 use Rattle.std.specs.Io.KnownBytes.{Appends}
 use Rattle.io_traits.specs.Faults.{Rose}
 use Rattle.io_traits.specs.Host.{HostState, IsEmpty, WritesOnly}
-use Rattle.io_traits.specs.declared.host.Place.{Place}
 use Rattle.io_traits.specs.declared.host.Place.TheVariants as places
 use Rattle.io_traits.specs.declared.host.Way.{Way}
 use Rattle.io_traits.specs.declared.host.Way.TheVariants as ways
