@@ -1,12 +1,15 @@
 pub mod Closed
+pub mod Deciding
 pub mod Faults
 pub mod Finishing
+pub mod FinishingCheck
 pub mod Frames
 pub mod Inputs
 pub mod Logs
 pub mod Outcomes
 pub mod Outputs
 pub mod Pictures
+pub mod Provings
 pub mod Running
 pub mod Runs
 pub mod Settings
@@ -14,5 +17,6 @@ pub mod SomeReplay
 pub mod Stepping
 pub mod Tallying
 pub mod Telling
+pub mod Verdicts
 pub mod Wording
 pub mod Worked

@@ -20,7 +20,7 @@ use Rattle.admission_log.specs.declared.events.Event.TheVariants.{Tick}
 use Rattle.admission_log.specs.Histories.{History, appended, last_of, tick_in}
 use Rattle.tracker_session.specs.declared.replay.Run.{Run}
 use Rattle.tracker_session.specs.declared.status.Status.{Status}
-use Rattle.tracker_session.specs.declared.status.Status.TheVariants.{Done, Usage, Input, Read, Write, Memory}
+use Rattle.tracker_session.specs.declared.status.Status.TheVariants.{Done, Usage, Input, Read, Write, Memory, NotProved}
 use Rattle.tracker_session.specs.declared.status.Status.TheVariants as statuses
 use Rattle.tracker_session.specs.Counting.{counts_of}
 use Rattle.tracker_session.specs.Picture.{IsEdition}
@@ -135,6 +135,7 @@ progress_whole settings items start run number old new h all =
 pub stops_since : (s : Status) (old mid new : HostState) → old.faults places.Output ≤ mid.faults places.Output → StopsWriting s mid new → StopsWriting s old new
 stops_since (Write spot) old mid new later h = (h.0, Rose_since (old.faults places.Output) (mid.faults places.Output) (new.faults places.Output) later h.1)
 stops_since Memory old mid new later h = tt
+stops_since (NotProved index offset) old mid new later h = absurd h
 stops_since Done old mid new later h = h
 stops_since Usage old mid new later h = h
 stops_since (statuses.Settings fault) old mid new later h = h

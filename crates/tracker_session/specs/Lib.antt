@@ -1,4 +1,7 @@
 pub mod Answers
+pub mod CheckEnds
+pub mod CheckRuns
+pub mod Checking
 pub mod Closing
 pub mod Counting
 pub mod Ends

@@ -2,6 +2,7 @@
 ghost use Rattle.std.specs.Prelude.{◌≡◌, ◌<◌, ◌-◌, ℕ, List, All, Option, count_by};
 ghost use Rattle.admission_log.specs.declared.settings.Settings.{Settings};
 ghost use Rattle.recording.specs.Items.{Item};
+ghost use Rattle.tracker_session.specs.Checking.{Checks, HasVerdict, Verdict};
 ghost use Rattle.tracker_session.specs.Inputs.{HasReading, IsRead};
 ghost use Rattle.admission_log.specs.Histories.{History};
 ghost use Rattle.tracker_session.specs.Counting.{is_datagram, is_delivery};
@@ -24,4 +25,10 @@ pub fn one_replay()
 /// The datagrams of a replay that aren't in its log, which are counted as malformed, are those with a fault.
 pub fn malformed_datagrams()
     ensures { (settings : Settings) (start : ℕ) (items : List Item) (log : History) → IsReplayLog settings start items log → HaveFaults items (count_by is_datagram items - count_by is_delivery log.events) }
+{}
+
+/// Octets have exactly one verdict as a price file: so many certificates, all of which prove; or one that is the first that doesn't; or one fault.
+pub fn one_check()
+    ensures some { (octets : List ℕ) → All (λ octet. octet < 256) octets → HasVerdict octets }
+    ensures one { (octets : List ℕ) (v w : Verdict) → Checks octets v → Checks octets w → v ≡ w }
 {}

@@ -2,6 +2,7 @@
 #![tactic(auto)]
 
 mod batch;
+mod checking;
 mod laws;
 mod picture;
 mod plots;
@@ -14,7 +15,7 @@ mod tally;
 mod words;
 
 pub use batch::run_batch;
-pub use laws::{malformed_datagrams, one_reading, one_replay};
+pub use laws::{malformed_datagrams, one_check, one_reading, one_replay};
 pub use status::{Spot, Status};
 pub use words::{Command, WordsError, parse_words};
 
