@@ -8,12 +8,12 @@ use Rattle.assignment_dual.proofs.solving.answer.Goals as goal
 
 pub first_pairing-requires-clause-resting : goal.first_pairing-requires-clause-resting
 first_pairing-requires-clause-resting c =
-    subst (λ (n : ℕ). AreResting c.args.graph.now n c.settle_all.new.prices c.settle_all.new.mates c.args.gone.now) (sym c.settle_all.auto.prices)
+    subst (λ (n : ℕ). AreResting c.args.graph.now n c.settle_all.new.prices c.settle_all.new.mates c.args.gone.now) (sym c.in_ok-settle_all.ensures.priced.count)
     (all_resting c.in_ok-settle_all.ensures.priced c.in_ok-settle_all.ensures.mates c.in_ok-settle_all.ensures.full c.requires.here)
 
 pub returns : goal.returns
 returns c =
-    let l : length c.settle_all.new.prices ≡ length c.args.prices.now = c.settle_all.auto.prices in
+    let l : length c.settle_all.new.prices ≡ length c.args.prices.now = c.in_ok-settle_all.ensures.priced.count in
     let r : AreResting c.args.graph.now (length c.args.prices.now) c.settle_all.new.prices c.settle_all.new.mates c.args.gone.now =
     all_resting c.in_ok-settle_all.ensures.priced c.in_ok-settle_all.ensures.mates c.in_ok-settle_all.ensures.full c.requires.here in
     let least : (tracks : ℕ) (rows : List Row) → ShowsRest c.args.graph.now (length c.args.prices.now) tracks c.args.gone.now 0 rows → IsLeast rows c.in_ok-pairing.pairing.items =

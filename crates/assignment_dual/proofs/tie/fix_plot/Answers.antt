@@ -1,6 +1,6 @@
-use Rattle.std.proofs.Common.{◌≡◌, ◌≤◌, ◌<◌, ℕ, ◌*◌, length, get_or, sum, List, Bool, true, false, arith, refl, ◌∙◌, ap, subst, get_or-set_same}
+use Rattle.std.proofs.Common.{◌≡◌, ◌<◌, ℕ, length, get_or, sum, List, Bool, true, false, arith, refl, ◌∙◌, ap, subst, get_or-set_same}
 use Rattle.assignment_dual.specs.Vertices.{AreResting}
-use Rattle.assignment_dual.proofs.Candidates.{Tried, tried, sum_small, track_here, trying_next, fixed_track, fixed_none, others_track, others_none}
+use Rattle.assignment_dual.proofs.Candidates.{Tried, tried, track_here, trying_next, fixed_track, fixed_none, others_track, others_none}
 use Rattle.assignment_dual.proofs.tie.fix_plot.Goals as goal
 
 pub overflow_add-arc : goal.overflow_add-arc
@@ -13,10 +13,7 @@ pub overflow_add-from : goal.overflow_add-from
 overflow_add-from c =
     let t : Tried c.args.graph.now (length c.args.prices.now) c.args.gone.now c.index-arc.result.now (get_or c.args.tight.now c.loop-k.k-index 0) =
     tried c.requires.graph c.requires.tight c.requires.p c.requires.plots c.loop-k.k-index c.index-arc.result.now c.loop-k-test.true c.index-arc.ensures in
-    let r : AreResting c.args.graph.now (length c.args.prices.now) c.take_out-in-loop-k.new.prices c.take_out-in-loop-k.new.mates c.take_out-in-loop-k.new.gone =
-    subst (λ (n : ℕ). AreResting c.args.graph.now n c.take_out-in-loop-k.new.prices c.take_out-in-loop-k.new.mates c.take_out-in-loop-k.new.gone) (c.loop-k.auto.prices ∙ c.take_out.auto.prices) c.in_ok-take_out-2.ensures.resting in
-    let b : sum c.take_out-in-loop-k.new.prices ≤ 4097 * length c.take_out-in-loop-k.new.prices = sum_small c.take_out-in-loop-k.new.prices r.priced.alone in
-    omega (arith, t.small, b, r.priced.count, c.requires.few, c.from.ensures, c.sum_of.ensures)
+    omega (arith, t.small, c.from.ensures, c.sum.ensures.small)
 
 pub overflow_sub-result : goal.overflow_sub-result
 overflow_sub-result c =
@@ -30,14 +27,14 @@ overflow_cast-result c =
     tried c.requires.graph c.requires.tight c.requires.p c.requires.plots c.loop-k.k-index c.index-arc.result.now c.loop-k-test.true c.index-arc.ensures in
     omega (arith, t.low, t.high, c.requires.tracks)
 
-pub returns-then-from-sum_of-clause-fixed : goal.returns-then-from-sum_of-clause-fixed
-returns-then-from-sum_of-clause-fixed c =
+pub returns-then-from-sum-clause-fixed : goal.returns-then-from-sum-clause-fixed
+returns-then-from-sum-clause-fixed c =
     let t : Tried c.args.graph.now (length c.args.prices.now) c.args.gone.now c.index-arc.result.now (get_or c.args.tight.now c.loop-k.k-index 0) =
     tried c.requires.graph c.requires.tight c.requires.p c.requires.plots c.loop-k.k-index c.index-arc.result.now c.loop-k-test.true c.index-arc.ensures in
     let r : AreResting c.args.graph.now (length c.args.prices.now) c.take_out-in-loop-k.new.prices c.take_out-in-loop-k.new.mates c.take_out-in-loop-k.new.gone =
-    subst (λ (n : ℕ). AreResting c.args.graph.now n c.take_out-in-loop-k.new.prices c.take_out-in-loop-k.new.mates c.take_out-in-loop-k.new.gone) (c.loop-k.auto.prices ∙ c.take_out.auto.prices) c.in_ok-take_out-2.ensures.resting in
-    fixed_track c.requires.graph c.requires.resting c.requires.count c.requires.tight c.loop-k.k-index c.index-arc.result.now.to c.index-arc.result.now.cost c.sum_of-whole.result
-    c.loop-k-test.true t.to t.cost t.low c.sum_of-whole.ensures c.loop-k.invariant c.in_ok-take_out-2.ensures.gone r (omega (arith, c.if-from-sum_of.true, c.from.ensures, c.sum_of.ensures))
+    subst (λ (n : ℕ). AreResting c.args.graph.now n c.take_out-in-loop-k.new.prices c.take_out-in-loop-k.new.mates c.take_out-in-loop-k.new.gone) c.loop-k.invariant.0.resting.priced.count c.in_ok-take_out-2.ensures.resting in
+    fixed_track c.requires.graph c.requires.resting c.requires.count c.requires.tight c.loop-k.k-index c.index-arc.result.now.to c.index-arc.result.now.cost c.sum-whole.result
+    c.loop-k-test.true t.to t.cost t.low c.sum-whole.ensures.sum c.loop-k.invariant.0 c.in_ok-take_out-2.ensures.gone r (omega (arith, c.if-from-sum.true, c.from.ensures, c.sum.ensures.sum))
 
 pub put_back-requires-clause-away : goal.put_back-requires-clause-away
 put_back-requires-clause-away c =
@@ -51,23 +48,23 @@ loop-k-preserved c =
     let t : Tried c.args.graph.now (length c.args.prices.now) c.args.gone.now c.index-arc.result.now (get_or c.args.tight.now c.loop-k.k-index 0) =
     tried c.requires.graph c.requires.tight c.requires.p c.requires.plots c.loop-k.k-index c.index-arc.result.now c.loop-k-test.true c.index-arc.ensures in
     let r : AreResting c.args.graph.now (length c.args.prices.now) c.take_out-in-loop-k.new.prices c.take_out-in-loop-k.new.mates c.take_out-in-loop-k.new.gone =
-    subst (λ (n : ℕ). AreResting c.args.graph.now n c.take_out-in-loop-k.new.prices c.take_out-in-loop-k.new.mates c.take_out-in-loop-k.new.gone) (c.loop-k.auto.prices ∙ c.take_out.auto.prices) c.in_ok-take_out-2.ensures.resting in
+    subst (λ (n : ℕ). AreResting c.args.graph.now n c.take_out-in-loop-k.new.prices c.take_out-in-loop-k.new.mates c.take_out-in-loop-k.new.gone) c.loop-k.invariant.0.resting.priced.count c.in_ok-take_out-2.ensures.resting in
     let q : AreResting c.args.graph.now (length c.args.prices.now) c.put_back.new.prices c.put_back.new.mates c.put_back.new.gone =
-    subst (λ (n : ℕ). AreResting c.args.graph.now n c.put_back.new.prices c.put_back.new.mates c.put_back.new.gone) (c.take_out-in-loop-k.auto.prices ∙ c.loop-k.auto.prices ∙ c.take_out.auto.prices) c.in_ok-put_back.ensures.resting in
-    let h : get_or c.loop-k.gone c.index-arc.result.now.to false ≡ false = ap (λ (o : List Bool). get_or o c.index-arc.result.now.to false) c.loop-k.invariant.fixed ∙ track_here t c.requires.p in
-    trying_next c.loop-k.invariant (get_or c.args.tight.now c.loop-k.k-index 0) c.index-arc.result.now.to c.index-arc.result.now.cost refl t.to t.cost h
+    subst (λ (n : ℕ). AreResting c.args.graph.now n c.put_back.new.prices c.put_back.new.mates c.put_back.new.gone) r.priced.count c.in_ok-put_back.ensures.resting in
+    let h : get_or c.loop-k.gone c.index-arc.result.now.to false ≡ false = ap (λ (o : List Bool). get_or o c.index-arc.result.now.to false) c.loop-k.invariant.0.fixed ∙ track_here t c.requires.p in
+    (trying_next c.loop-k.invariant.0 (get_or c.args.tight.now c.loop-k.k-index 0) c.index-arc.result.now.to c.index-arc.result.now.cost refl t.to t.cost h
     c.take_out-in-loop-k.new.prices c.take_out-in-loop-k.new.mates c.put_back.new.prices c.put_back.new.mates c.take_out-in-loop-k.new.gone c.put_back.new.gone
-    c.in_ok-take_out-2.ensures.gone r (λ z. c.if-from-sum_of.false (omega (arith, z, c.from.ensures, c.sum_of.ensures))) c.in_ok-put_back.ensures.gone q
+    c.in_ok-take_out-2.ensures.gone r (λ z. c.if-from-sum.false (omega (arith, z, c.from.ensures, c.sum.ensures.sum))) c.in_ok-put_back.ensures.gone q, c.in_ok-put_back.ensures.none_seen)
 
 pub returns-clause-fixed : goal.returns-clause-fixed
 returns-clause-fixed c =
-    fixed_none c.requires.graph c.requires.resting c.requires.count c.requires.tight c.loop-k.k-index c.sum_of-whole.result (omega (arith, c.loop-k-test.false)) c.sum_of-whole.ensures c.loop-k.invariant
+    fixed_none c.requires.graph c.requires.resting c.requires.count c.requires.tight c.loop-k.k-index c.sum-whole.result (omega (arith, c.loop-k-test.false)) c.sum-whole.ensures.sum c.loop-k.invariant.0
 
-pub returns-then-from-sum_of-clause-others : goal.returns-then-from-sum_of-clause-others
-returns-then-from-sum_of-clause-others c =
+pub returns-then-from-sum-clause-others : goal.returns-then-from-sum-clause-others
+returns-then-from-sum-clause-others c =
     let t : Tried c.args.graph.now (length c.args.prices.now) c.args.gone.now c.index-arc.result.now (get_or c.args.tight.now c.loop-k.k-index 0) =
     tried c.requires.graph c.requires.tight c.requires.p c.requires.plots c.loop-k.k-index c.index-arc.result.now c.loop-k-test.true c.index-arc.ensures in
-    others_track c.loop-k.invariant c.index-arc.result.now.to t.low c.in_ok-take_out-2.ensures.gone
+    others_track c.loop-k.invariant.0 c.index-arc.result.now.to t.low c.in_ok-take_out-2.ensures.gone
 
 pub returns-clause-others : goal.returns-clause-others
-returns-clause-others c = λ v h d. others_none c.loop-k.invariant v d
+returns-clause-others c = λ v h d. others_none c.loop-k.invariant.0 v d
