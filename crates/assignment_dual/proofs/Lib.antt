@@ -22,3 +22,4 @@ pub mod Building
 pub mod Answer
 pub mod Renumbering
 pub mod Parts
+pub mod Restricting

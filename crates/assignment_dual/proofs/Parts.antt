@@ -152,15 +152,15 @@ record Labels (n : ℕ) (P : ℕ → ℕ → Type 0) : Type 0 where
   pub count : length labels ≡ n
   pub each : (p : ℕ) → p < n → P p (get_or labels p 0)
 
+each_label : (n : ℕ) (P : ℕ → ℕ → Type 0) (i : ℕ) (labels : List ℕ) → P 0 i → ((p : ℕ) → p < n → P (suc p) (get_or labels p 0)) → (p : ℕ) → p < suc n → P p (get_or (i ∷ labels) p 0)
+each_label n P i labels a f zero h = a
+each_label n P i labels a f (suc p) h = f p (omega (arith, h))
+
 labels_of : (n : ℕ) (P : ℕ → ℕ → Type 0) → ((p : ℕ) → p < n → (i : ℕ) × P p i) → Labels n P
 labels_of zero P f = record { labels = []; count = refl; each = λ p h. absurd (omega (arith, h)) }
 labels_of (suc n) P f =
     let r : Labels n (λ p. P (suc p)) = labels_of n (λ p. P (suc p)) (λ p h. f (suc p) (omega (arith, h))) in
-    record {
-      labels = (f 0 (omega arith)).0 ∷ r.labels;
-      count = ap suc r.count;
-      each = λ p. elim p as (λ p. p < suc n → P p (get_or ((f 0 (omega arith)).0 ∷ r.labels) p 0)) [ zero ↦ (λ h. (f 0 (omega arith)).1) | suc p ↦ (λ h. r.each p (omega (arith, h))) ];
-    }
+    record { labels = (f 0 (omega arith)).0 ∷ r.labels; count = ap suc r.count; each = each_label n P (f 0 (omega arith)).0 r.labels (f 0 (omega arith)).1 r.each }
 
 below_from : (n : ℕ) (labels : List ℕ) → ((p : ℕ) → p < length labels → get_or labels p 0 < n) → Below n labels
 below_from n [] f = tt
@@ -198,7 +198,7 @@ record PicksBehind (i l : ℕ) (labels ps : List ℕ) : Type 0 where
   pub sound : (k : ℕ) → k < length ps → (get_or ps k 0 < suc (length labels)) × (get_or (l ∷ labels) (get_or ps k 0) 0 ≡ i)
   pub complete : (p : ℕ) → p < length labels → get_or labels p 0 ≡ i → (k : ℕ) × (k < length ps) × (get_or ps k 0 ≡ suc p)
 
-lower : ℕ → ℕ
+abbrev lower : ℕ → ℕ
 lower p = p - 1
 
 lower_at : (ps : List ℕ) (k : ℕ) → k < length ps → get_or (map lower ps) k 0 ≡ get_or ps k 0 - 1
@@ -235,11 +235,16 @@ not_front : (ps : List ℕ) (p k : ℕ) → k < suc (length ps) → get_or (zero
 not_front ps p zero h e = absurd (omega (arith, e))
 not_front ps p (suc k) h e = (k, omega (arith, h), e)
 
+rest_rises : (x : ℕ) (xs : List ℕ) → IsStrictlyIncreasing (x ∷ xs) → IsStrictlyIncreasing xs
+rest_rises x xs r k h =
+    let e : suc k + 1 ≡ suc (k + 1) = omega arith in
+    subst (λ (o : ℕ). get_or xs k 0 < get_or (x ∷ xs) o 0) e (r (suc k) (omega (arith, h)))
+
 -- the places behind the first, where the label i stands in front
 behind_front : {i l : ℕ} {labels ps : List ℕ} → Picks i (l ∷ labels) (zero ∷ ps) → PicksBehind i l labels ps
 behind_front {i} {l} {labels} {ps} b = record {
-  rising = λ k h. b.rising (suc k) (omega (arith, h));
-  behind = λ k h. rise_on {numbers = zero ∷ ps} b.rising 0 (suc k) (omega arith) (omega (arith, h));
+  rising = rest_rises zero ps b.rising;
+  behind = λ k h. rise_on (zero ∷ ps) b.rising 0 (suc k) (omega arith) (omega (arith, h));
   sound = λ k h. b.sound (suc k) (omega (arith, h));
   complete = λ p h e.
       let r : (k : ℕ) × (k < suc (length ps)) × (get_or (zero ∷ ps) k 0 ≡ suc p) = b.complete (suc p) (omega (arith, h)) e in
@@ -260,7 +265,7 @@ behind_other {i} {l} {labels} {ps} b f = record {
 
 late : (p : ℕ) (ps : List ℕ) → IsStrictlyIncreasing (suc p ∷ ps) → (k : ℕ) → k < length (suc p ∷ ps) → get_or (suc p ∷ ps) k 0 ≡ 0 → ⊥
 late p ps r zero h e = omega (arith, e)
-late p ps r (suc k) h e = omega (arith, e, rise_on {numbers = suc p ∷ ps} r 0 (suc k) (omega arith) h)
+late p ps r (suc k) h e = omega (arith, e, rise_on (suc p ∷ ps) r 0 (suc k) (omega arith) h)
 
 front_at : {X : Type 0} (d x : X) (i a : ℕ) (labels : List ℕ) (xs : List X) → ((qs : List ℕ) → Picks i labels qs → labelled i labels xs ≡ at_plots d xs qs) → (ps : List ℕ) → Picks i (a ∷ labels) ps → a ≡ i → x ∷ labelled i labels xs ≡ at_plots d (x ∷ xs) ps
 front_at d x i a labels xs f [] b e = absurd (omega (arith, (b.complete 0 (omega arith) e).1))
@@ -292,7 +297,7 @@ at_place ps k h = Contains-get_or ps k 0 h
 pub many_parts : (rows : List Row) (xs : List (Option ℕ)) (parts : List (List ℕ)) → length xs ≡ length rows → AreParts rows parts
     → ((i : ℕ) → i < length parts → IsLeast (at_plots no_row rows (part_at parts i)) (at_plots None xs (part_at parts i))) → IsLeast rows xs
 many_parts rows xs parts l a f =
-    let b : Labels (length rows) (λ p i. (i < length parts) × Contains (part_at parts i) p) = labels_of (length rows) (λ p i. (i < length parts) × Contains (part_at parts i) p) a.whole in
+    let b : Labels (length rows) (λ p i. (i < length parts) × Contains (part_at parts i) p) = labels_of (length rows) (λ p i. (i < length parts) × Contains (part_at parts i) p) (λ p h. let w : (i : ℕ) × (i < length parts) × Contains (part_at parts i) p = a.whole p h in (w.0, (w.1, w.2))) in
     let n : length rows ≡ length b.labels = sym b.count in
     let picks : (i : ℕ) → Picks i b.labels (part_at parts i) = λ i. record {
       rising = a.rising i;

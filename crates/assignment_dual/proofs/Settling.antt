@@ -165,7 +165,7 @@ are_moved {g} {n} {qs} {new} {ms} {seen} {tree} {x} {d} t am mx s =
       ];
     }
 
-pub may_shift : {g : Graph} {n : ℕ} {qs ms : List ℕ} {seen : List Bool} {tree : List Node} {x d : ℕ} → IsGraph g n → IsPriced g n qs → IsSearchTree g n qs ms seen tree x → AreMates g n qs ms → get_or ms x 0 ≡ x
+may_shift : {g : Graph} {n : ℕ} {qs ms : List ℕ} {seen : List Bool} {tree : List Node} {x d : ℕ} → IsGraph g n → IsPriced g n qs → IsSearchTree g n qs ms seen tree x → AreMates g n qs ms → get_or ms x 0 ≡ x
     → ArePaired ms tree (length tree) → AllHaveRoom g qs ms seen tree d → MayShift qs ms tree d
 may_shift {g} {n} {qs} {ms} {seen} {tree} {x} {d} gr pr t am mx p a =
     let vl : (i : ℕ) → i < length tree → vertex_at tree i < length qs = λ i h. omega (arith, t.within i h, pr.count) in
@@ -189,36 +189,37 @@ may_shift {g} {n} {qs} {ms} {seen} {tree} {x} {d} gr pr t am mx p a =
           omega (arith, (a.room i h).alone, ta.1.exact);
     }
 
+-- a round whose search fails: the tree, the mates and the rooms, told of the mates from before
+record Failed (g : Graph) (qs ms now_q : List ℕ) (seen : List Bool) (tree : List Node) (x d : ℕ) : Type 0 where
+  pub search : IsSearchTree g (length qs) now_q ms seen tree x
+  pub exhausted : IsExhausted g now_q ms seen tree
+  pub rooms : AllHaveRoom g now_q ms seen tree d
+
+failed : {g : Graph} {qs ms now_q now_m then_m : List ℕ} {first seen : List Bool} {before tree : List Node} {x d : ℕ} → now_m ≡ ms → Settling g qs ms now_q first before x → then_m ≡ now_m
+    → IsSearchTree g (length now_q) now_q now_m seen tree (vertex_at before 0) → IsExhausted g now_q now_m seen tree → AllHaveRoom g now_q then_m seen tree d → Failed g qs ms now_q seen tree x d
+failed {g} {qs} {ms} {now_q} {now_m} {then_m} {first} {seen} {before} {tree} {x} {d} e s f t ex ro = record {
+  search = subst (IsSearchTree g (length qs) now_q ms seen tree) s.search.root
+      (subst (λ (o : List ℕ). IsSearchTree g (length qs) now_q o seen tree (vertex_at before 0)) e (subst (λ (n : ℕ). IsSearchTree g n now_q now_m seen tree (vertex_at before 0)) s.count t));
+  exhausted = subst (λ (o : List ℕ). IsExhausted g now_q o seen tree) e ex;
+  rooms = subst (λ (o : List ℕ). AllHaveRoom g now_q o seen tree d) (f ∙ e) ro;
+}
+
 pub settling_step : {g : Graph} {qs ms now_q now_m then_m new : List ℕ} {first seen : List Bool} {before tree : List Node} {x d : ℕ} → IsGraph g (length qs) → get_or ms x 0 ≡ x → now_m ≡ ms → Settling g qs ms now_q first before x
     → then_m ≡ now_m → length seen ≡ length first → IsSearchTree g (length now_q) now_q now_m seen tree (vertex_at before 0) → IsExhausted g now_q now_m seen tree
     → AllHaveRoom g now_q then_m seen tree d → AreShifted now_q new then_m tree d → (then_m ≡ ms) × Settling g qs ms new seen tree x
 settling_step {g} {qs} {ms} {now_q} {now_m} {then_m} {new} {first} {seen} {before} {tree} {x} {d} gr mx e s f l t ex ro sh =
-    let t' : IsSearchTree g (length qs) now_q ms seen tree x =
-    subst (IsSearchTree g (length qs) now_q ms seen tree) s.search.root (subst (λ (o : List ℕ). IsSearchTree g (length qs) now_q o seen tree (vertex_at before 0)) e (subst (λ (n : ℕ). IsSearchTree g n now_q now_m seen tree (vertex_at before 0)) s.count t)) in (
+    let a : Failed g qs ms now_q seen tree x d = failed e s f t ex ro in (
       f ∙ e,
-      settling_next gr mx s l t'
-          (subst (λ (o : List ℕ). IsExhausted g now_q o seen tree) e ex)
-          (each_has_room t' s.mates mx (subst (λ (o : List ℕ). AllHaveRoom g now_q o seen tree d) (f ∙ e) ro))
-          (are_moved t' s.mates mx (subst (λ (o : List ℕ). AreShifted now_q new o tree d) (f ∙ e) sh)),
+      settling_next gr mx s l a.search a.exhausted (each_has_room a.search s.mates mx a.rooms)
+          (are_moved a.search s.mates mx (subst (λ (o : List ℕ). AreShifted now_q new o tree d) (f ∙ e) sh)),
     )
+
+pub settling_shift : {g : Graph} {qs ms now_q now_m then_m : List ℕ} {first seen : List Bool} {before tree : List Node} {x d : ℕ} → IsGraph g (length qs) → get_or ms x 0 ≡ x → now_m ≡ ms → Settling g qs ms now_q first before x
+    → then_m ≡ now_m → IsSearchTree g (length now_q) now_q now_m seen tree (vertex_at before 0) → IsExhausted g now_q now_m seen tree → AllHaveRoom g now_q then_m seen tree d → MayShift now_q then_m tree d
+settling_shift {g} {qs} {ms} {now_q} {now_m} {then_m} {first} {seen} {before} {tree} {x} {d} gr mx e s f t ex ro =
+    let a : Failed g qs ms now_q seen tree x d = failed e s f t ex ro in
+    subst (λ (o : List ℕ). MayShift now_q o tree d) (sym (f ∙ e)) (may_shift gr s.priced a.search s.mates mx a.exhausted.paired a.rooms)
 
 -- the vertices of the nodes before k are forgotten
 abbrev pub ForgottenBelow : List Bool → List Node → ℕ → Type 0
 ForgottenBelow seen tree k = (y : ℕ) → get_or seen y false ≡ true → (i : ℕ) × (k ≤ i) × (i < length tree) × (vertex_at tree i ≡ y)
-
-pub forgotten_more : {seen : List Bool} {tree : List Node} {k : ℕ} (v : ℕ) → ForgottenBelow seen tree k → v ≡ vertex_at tree k → v < length seen → ForgottenBelow (set seen v false) tree (k + 1)
-forgotten_more {seen} {tree} {k} v f e l y h = elim (cases_eq y v) [
-  | inl q ↦ absurd (false_true h (ap (λ (o : ℕ). get_or (set seen v false) o false) q ∙ get_or-set_same seen v false false l))
-  | inr d ↦
-      let r : (i : ℕ) × (k ≤ i) × (i < length tree) × (vertex_at tree i ≡ y) = f y (sym (get_or-set_other seen v y false false d) ∙ h) in
-      let n : r.0 ≢ k = λ q. d (sym r.3 ∙ ap (vertex_at tree) q ∙ sym e) in
-      (r.0, omega (arith, r.1, n), r.2, r.3)
-]
-
-pub none_seen : {seen : List Bool} {tree : List Node} {k : ℕ} → ForgottenBelow seen tree k → length tree ≤ k → NoneSeen seen
-none_seen {seen} {tree} {k} f h = record {
-  each = λ y. elim (cases_Bool (get_or seen y false)) [
-    | inl t ↦ absurd (omega (arith, h, (f y t).1, (f y t).2))
-    | inr e ↦ e
-  ];
-}

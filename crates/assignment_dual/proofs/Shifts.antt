@@ -78,6 +78,29 @@ pub rises_apart : {g : Graph} {n : ℕ} {qs ms : List ℕ} {seen : List Bool} {x
 rises_apart {g} {n} {qs} {ms} {seen} {x} {v} {u} gr am tr h k r q a =
     across_differ (rises_across gr am tr k q (across_back (rises_across gr am tr h r a))) refl
 
+-- one arc more has been looked at, for whose sake x may rise by f
+pub roomy_next : {g : Graph} {qs : List ℕ} {seen : List Bool} {x k d e : ℕ} (f : ℕ) → Roomy g qs seen x k d → HasArc g x k → (get_or seen (to_of g k) false ≡ false → get_or qs x 0 + get_or qs (to_of g k) 0 + f ≡ cost_at g k + MISS)
+    → (get_or seen (to_of g k) false ≡ true → f ≡ MISS) → 0 < e → e ≤ d → e ≤ f → (e ≡ d) ⊎ (e ≡ f) → Roomy g qs seen x (k + 1) e
+roomy_next {g} {qs} {seen} {x} {k} {d} {e} f s a free within p l m either = record {
+  some = p;
+  alone = omega (arith, s.alone, l);
+  from = omega (arith, s.from);
+  arcs = λ j b h u. elim (cases_lt j k) [
+    | inl q ↦ omega (arith, s.arcs j b q u, l)
+    | inr q ↦
+        let z : j ≡ k = omega (arith, h, q) in
+        let t : get_or qs x 0 + get_or qs (to_of g k) 0 + e ≤ cost_at g k + MISS = omega (arith, free (ap (λ (o : ℕ). get_or seen (to_of g o) false) (sym z) ∙ u), m) in
+        subst (λ (o : ℕ). get_or qs x 0 + get_or qs (to_of g o) 0 + e ≤ cost_at g o + MISS) (sym z) t
+  ];
+  most = λ o h. elim either [
+    | inl q ↦ omega (arith, q, s.most o h)
+    | inr q ↦ elim (cases_Bool (get_or seen (to_of g k) false)) [
+      | inl t ↦ omega (arith, q, within t, h.alone)
+      | inr u ↦ omega (arith, q, free u, h.arcs k a u)
+    ]
+  ];
+}
+
 pub roomy_more : {g : Graph} {qs ms : List ℕ} {seen : List Bool} {tree : List Node} {i d e f : ℕ} → RoomyBelow g qs ms seen tree i d → i < length tree → HasRoom g qs seen (mate_at ms tree i) f → ((o : ℕ) → HasRoom g qs seen (mate_at ms tree i) o → o ≤ f)
     → 0 < e → e ≤ d → e ≤ f → (e ≡ d) ⊎ (e ≡ f) → RoomyBelow g qs ms seen tree (i + 1) e
 roomy_more {g} {qs} {ms} {seen} {tree} {i} {d} {e} {f} b il h most p l m either = record {

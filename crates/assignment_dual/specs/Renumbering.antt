@@ -1,6 +1,5 @@
 -- The tracks of a part of a batch, by their places in a list and by their own numbers.
-use Rattle.std.specs.Prelude.{◌≡◌, ◌<◌, ℕ, List, length, get_or, map, Option, IsSome}
-use Rattle.core.specs.Option.{option_map}
+use Rattle.std.specs.Prelude.{◌≡◌, ◌<◌, ℕ, List, length, get_or, map, Option, option_map, IsSome}
 use Rattle.assignment_dual.specs.Pairings.{Row}
 use Rattle.assignment_dual.specs.Rests.{row_at}
 

@@ -3,8 +3,8 @@
 ghost use Rattle.std.specs.Prelude.{◌≡◌, ◌≤◌, ◌<◌, ℕ, ℤ, List, Option, None, Bool, true, false, length};
 ghost use Rattle.std.specs.List.Sorted.{IsStrictlyIncreasing};
 ghost use Rattle.assignment_dual.specs.Pairings.{Row, IsPairing, IsLeast, cost, part, Apart};
-ghost use Rattle.assignment_dual.specs.Parts.{part_at, at_plots, AreParts};
-ghost use Rattle.assignment_dual.specs.Problems.{Problem, rows_of, Proves};
+ghost use Rattle.assignment_dual.specs.Parts.{part_at, at_plots, AreParts, IsPartOf};
+ghost use Rattle.assignment_dual.specs.Problems.{Problem, IsProblem, rows_of, Proves};
 ghost use Rattle.assignment_dual.specs.Renumbering.{AreRenumbered, renumbered};
 ghost use Rattle.assignment_dual.specs.Rests.{no_row};
 
@@ -26,6 +26,13 @@ pub fn proven_least()
 pub fn renumbered_tracks()
     ensures { (numbers : List ℕ) (rows others : List Row) (xs : List (Option ℕ)) → IsStrictlyIncreasing numbers → AreRenumbered numbers rows others
         → IsLeast rows xs → IsLeast others (renumbered numbers xs) }
+{}
+
+/// The least pairing of a part's own problem, which names plots and tracks by their places in the
+/// part, is the least pairing of the batch's rows of these plots.
+pub fn part_of_batch()
+    ensures { (p q : Problem) (plots tracks : List ℕ) (xs : List (Option ℕ)) → IsProblem p → IsProblem q → IsStrictlyIncreasing tracks → IsPartOf p plots tracks q
+        → IsLeast (rows_of q) xs → IsLeast (at_plots no_row (rows_of p) plots) (renumbered tracks xs) }
 {}
 
 /// Where a batch falls in parts and no track gates plots of two, the least pairing of the batch is

@@ -27,5 +27,5 @@ mod tests;
 mod tie;
 
 pub use costs::{Costs, Solved};
-pub use laws::{disjoint_sets, many_parts, proven_least, renumbered_tracks};
+pub use laws::{disjoint_sets, many_parts, part_of_batch, proven_least, renumbered_tracks};
 pub use solving::solve;

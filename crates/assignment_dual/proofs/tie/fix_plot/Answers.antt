@@ -1,6 +1,6 @@
-use Rattle.std.proofs.Common.{◌≡◌, ◌<◌, ℕ, length, get_or, sum, List, Bool, true, false, arith, refl, ◌∙◌, ap, subst, get_or-set_same}
-use Rattle.assignment_dual.specs.Vertices.{AreResting}
-use Rattle.assignment_dual.proofs.Candidates.{Tried, tried, track_here, trying_next, fixed_track, fixed_none, others_track, others_none}
+use Rattle.std.proofs.Common.{◌≡◌, ◌<◌, ℕ, length, get_or, sum, List, Bool, true, false, arith, refl, sym, ◌∙◌, ap, subst, get_or-set_same}
+use Rattle.assignment_dual.specs.Vertices.{to_of, AreResting}
+use Rattle.assignment_dual.proofs.Candidates.{Tried, tried, track_here, trying_next, fixed_track, fixed_none, fixed_pair, others_track, others_none}
 use Rattle.assignment_dual.proofs.tie.fix_plot.Goals as goal
 
 pub overflow_add-arc : goal.overflow_add-arc
@@ -15,14 +15,14 @@ overflow_add-from c =
     tried c.requires.graph c.requires.tight c.requires.p c.requires.plots c.loop-k.k-index c.index-arc.result.now c.loop-k-test.true c.index-arc.ensures in
     omega (arith, t.small, c.from.ensures, c.sum.ensures.small)
 
-pub overflow_sub-result : goal.overflow_sub-result
-overflow_sub-result c =
+pub overflow_sub-result-then-from-sum : goal.overflow_sub-result-then-from-sum
+overflow_sub-result-then-from-sum c =
     let t : Tried c.args.graph.now (length c.args.prices.now) c.args.gone.now c.index-arc.result.now (get_or c.args.tight.now c.loop-k.k-index 0) =
     tried c.requires.graph c.requires.tight c.requires.p c.requires.plots c.loop-k.k-index c.index-arc.result.now c.loop-k-test.true c.index-arc.ensures in
     t.low
 
-pub overflow_cast-result : goal.overflow_cast-result
-overflow_cast-result c =
+pub overflow_cast-result-then-from-sum : goal.overflow_cast-result-then-from-sum
+overflow_cast-result-then-from-sum c =
     let t : Tried c.args.graph.now (length c.args.prices.now) c.args.gone.now c.index-arc.result.now (get_or c.args.tight.now c.loop-k.k-index 0) =
     tried c.requires.graph c.requires.tight c.requires.p c.requires.plots c.loop-k.k-index c.index-arc.result.now c.loop-k-test.true c.index-arc.ensures in
     omega (arith, t.low, t.high, c.requires.tracks)
@@ -68,3 +68,12 @@ returns-then-from-sum-clause-others c =
 
 pub returns-clause-others : goal.returns-clause-others
 returns-clause-others c = λ v h d. others_none c.loop-k.invariant.0 v d
+
+pub returns-then-mate_is_first-clause-resting : goal.returns-then-mate_is_first-clause-resting
+returns-then-mate_is_first-clause-resting c = c.take_pair-track.ensures.resting c.args.graph.now c.requires.resting
+
+pub returns-then-mate_is_first-clause-fixed : goal.returns-then-mate_is_first-clause-fixed
+returns-then-mate_is_first-clause-fixed c =
+    let f : (0 < length c.args.tight.now) × (to_of c.args.graph.now (get_or c.args.tight.now 0 0) ≡ get_or c.args.mates.now c.args.p 0) = c.mate_is_first.ensures.0 c.if-mate_is_first.true in
+    fixed_pair c.requires.graph c.requires.resting c.requires.count c.requires.tight c.take_pair-track.result f.0 (f.1 ∙ sym c.take_pair-track.ensures.mate) c.requires.p c.requires.plots c.take_pair-track.ensures.gone
+    (c.take_pair-track.ensures.resting c.args.graph.now c.requires.resting) c.take_pair-track.ensures.sum
