@@ -1,11 +1,11 @@
 -- The least pairings of any number of parts, put together.
-use Rattle.std.proofs.Common.{◌≡◌, ◌≢◌, ◌<◌, ◌⊎◌, inl, inr, ℕ, zero, suc, ◌+◌, ◌-◌, List, [], ◌∷◌, length, get_or, map, Bool, true, false, eqb, Option, Some, None, IsSome, is_some, arith, refl, sym, ◌∙◌, ap, subst}
+use Rattle.std.proofs.Common.{◌≡◌, ◌≢◌, ◌<◌, ◌⊎◌, inl, inr, ℕ, zero, suc, ◌+◌, ◌-◌, List, [], ◌∷◌, length, get_or, map, Bool, true, false, eqb, Option, Some, None, IsSome, arith, refl, sym, ◌∙◌, ap, subst}
 use Rattle.std.specs.List.{Contains}
 use Rattle.std.specs.List.Sorted.{IsStrictlyIncreasing}
 use Rattle.std.proofs.lemmas.Bool.{cases_eq, eq-eqb, ne_eqb}
 use Rattle.std.proofs.lemmas.List.{length-map, get_or-map, get_or_default}
 use Rattle.std.proofs.lemmas.List.Elements.{Contains-get_or}
-use Rattle.assignment_dual.specs.Pairings.{Row, IsLeast, part, GatesNone, Apart}
+use Rattle.assignment_dual.specs.Pairings.{Row, IsLeast, part, GatesNone}
 use Rattle.assignment_dual.specs.Rests.{no_row, row_at}
 use Rattle.assignment_dual.specs.Parts.{part_at, at_plots, AreParts}
 use Rattle.assignment_dual.proofs.Sets.{two_sets}
@@ -142,9 +142,9 @@ by_labels (suc n) labels rows xs b h k o f =
     (by_labels n (others n labels labels) (others n labels rows) (others n labels xs) b' (same_count n labels rows labels h refl) (same_count n labels xs labels k refl)
     (λ t. ((o t).0, others_only t (o t).0 n labels rows (o t).1))
     (λ m l.
-        let d : m ≢ n = λ q. omega (arith, q, l) in
-        subst (λ (q : List Row). IsLeast q (labelled m (others n labels labels) (others n labels xs))) (sym (still n m labels rows d h))
-        (subst (IsLeast (labelled m labels rows)) (sym (still n m labels xs d k)) (f m (omega (arith, l))))))
+    let d : m ≢ n = λ q. omega (arith, q, l) in
+    subst (λ (q : List Row). IsLeast q (labelled m (others n labels labels) (others n labels xs))) (sym (still n m labels rows d h))
+    (subst (IsLeast (labelled m labels rows)) (sym (still n m labels xs d k)) (f m (omega (arith, l))))))
 
 -- From lists of plots to labels.
 record Labels (n : ℕ) (P : ℕ → ℕ → Type 0) : Type 0 where
@@ -309,5 +309,5 @@ many_parts rows xs parts l a f =
     by_labels (length parts) b.labels rows xs (below_from (length parts) b.labels (λ p h. (b.each p (omega (arith, h, n))).0)) n (l ∙ n)
     (λ t. only_of t b.labels rows (λ p q h k g j. a.apart (get_or b.labels p 0) (get_or b.labels q 0) p q t (b.each p h).1 (b.each q k).1 g j))
     (λ i h.
-        subst (λ (o : List Row). IsLeast o (labelled i b.labels xs)) (sym (picked_at no_row i b.labels rows (part_at parts i) n (picks i)))
-        (subst (IsLeast (at_plots no_row rows (part_at parts i))) (sym (picked_at None i b.labels xs (part_at parts i) (l ∙ n) (picks i))) (f i h)))
+    subst (λ (o : List Row). IsLeast o (labelled i b.labels xs)) (sym (picked_at no_row i b.labels rows (part_at parts i) n (picks i)))
+    (subst (IsLeast (at_plots no_row rows (part_at parts i))) (sym (picked_at None i b.labels xs (part_at parts i) (l ∙ n) (picks i))) (f i h)))

@@ -1,5 +1,5 @@
 -- The prices at the places of a list of nodes rise, or fall, one after the other.
-use Rattle.std.proofs.Common.{◌≡◌, ◌≢◌, ◌≤◌, ◌<◌, ◌⊎◌, inl, inr, ℕ, ◌+◌, ◌-◌, length, get_or, set, List, arith, refl, sym, ◌∙◌, ap, get_or-set_same, get_or-set_other}
+use Rattle.std.proofs.Common.{◌≡◌, ◌≢◌, ◌≤◌, ◌<◌, inl, inr, ℕ, ◌+◌, length, get_or, set, List, arith, refl, sym, ◌∙◌, ap, get_or-set_same, get_or-set_other}
 use Rattle.std.proofs.lemmas.List.{length-set}
 use Rattle.std.proofs.lemmas.Bool.{cases_lt}
 use Rattle.assignment_dual.specs.declared.search.Node.{Node}

@@ -1,8 +1,8 @@
 -- The least pairing of a part is the least one also where its tracks go by other numbers.
-use Rattle.std.proofs.Common.{◌≡◌, ◌≢◌, ◌<◌, inl, inr, ℕ, zero, suc, ◌+◌, List, [], ◌∷◌, length, get_or, Option, Some, None, IsSome, is_some, arith, refl, sym, ◌∙◌, ap, subst}
+use Rattle.std.proofs.Common.{◌≡◌, ◌<◌, inl, inr, ℕ, zero, suc, ◌+◌, List, [], ◌∷◌, length, Option, Some, None, is_some, arith, refl, sym, ◌∙◌, ap, subst}
 use Rattle.std.specs.List.Sorted.{IsStrictlyIncreasing}
 use Rattle.std.proofs.lemmas.Bool.{cases_lt, cases_order}
-use Rattle.assignment_dual.specs.Pairings.{Row, gate_cost, Gates, AllGate, Misses, Once, IsPairing, cost, EntryBefore, NotAfter, ComesFirst, IsLeast}
+use Rattle.assignment_dual.specs.Pairings.{Row, gate_cost, AllGate, Misses, Once, cost, NotAfter, ComesFirst, IsLeast}
 use Rattle.assignment_dual.specs.Rests.{row_at}
 use Rattle.assignment_dual.specs.Renumbering.{number_at, IsRenumbered, AreRenumbered, renumbered}
 

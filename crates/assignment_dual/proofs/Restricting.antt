@@ -1,11 +1,11 @@
 -- The problem of a part, and the rows of the whole batch.
-use Rattle.std.proofs.Common.{◌≡◌, ◌<◌, ℕ, ◌↔◌, List, length, get_or, map, Option, Some, None, IsSome, is_some, arith, refl, sym, ◌∙◌, ap, subst}
+use Rattle.std.proofs.Common.{◌≡◌, ◌<◌, ℕ, List, length, get_or, Option, Some, None, arith, refl, sym, ◌∙◌, subst}
 use Rattle.std.specs.List.{Contains}
 use Rattle.std.specs.List.Sorted.{IsStrictlyIncreasing}
 use Rattle.std.proofs.lemmas.List.{length-map, get_or-map, get_or_default}
 use Rattle.std.proofs.lemmas.List.Elements.{Contains-get_or}
 use Rattle.assignment_dual.specs.Pairings.{Row, IsLeast}
-use Rattle.assignment_dual.specs.Problems.{Edge, Problem, IsProblem, EdgeBefore, edge_at, row_of, rows_of}
+use Rattle.assignment_dual.specs.Problems.{Edge, Problem, IsProblem, edge_at, row_of, rows_of}
 use Rattle.assignment_dual.specs.Rests.{no_row, row_at}
 use Rattle.assignment_dual.specs.Parts.{at_plots, IsPartOf}
 use Rattle.assignment_dual.specs.Renumbering.{IsRenumbered, AreRenumbered, renumbered}

@@ -1,10 +1,10 @@
 -- A vertex gets its place: the tree of its search, before and after a shift of prices.
-use Rattle.std.proofs.Common.{◌≡◌, ◌≢◌, ◌≤◌, ◌<◌, ◌⊎◌, inl, inr, ℕ, ◌+◌, length, get_or, set, true, false, Bool, List, [], ◌∷◌, arith, refl, sym, ◌∙◌, ap, subst, get_or-set_same, get_or-set_other}
+use Rattle.std.proofs.Common.{◌≡◌, ◌≢◌, ◌≤◌, ◌<◌, inl, inr, ℕ, ◌+◌, length, get_or, true, false, Bool, List, [], ◌∷◌, arith, refl, sym, ◌∙◌, ap, subst}
 use Rattle.std.proofs.lemmas.Bool.{cases_eq, cases_lt, cases_Bool}
 use Rattle.assignment_dual.specs.declared.graph.Graph.{Graph}
 use Rattle.assignment_dual.specs.declared.search.Node.{Node}
 use Rattle.assignment_dual.specs.Vertices.{IsGraph, IsPriced, Tight, AreMates, OthersPay, IsSettled}
-use Rattle.assignment_dual.specs.Search.{IsSwept, vertex_at, from_at, mate_at, IsSearchTree, ArePaired, IsExhausted, IsPlaced, NoneSeen}
+use Rattle.assignment_dual.specs.Search.{IsSwept, vertex_at, from_at, mate_at, IsSearchTree, ArePaired, IsExhausted, IsPlaced}
 use Rattle.assignment_dual.specs.Rising.{HasRoom, AllHaveRoom, MayShift, AreShifted}
 use Rattle.assignment_dual.proofs.Trees.{root_apart}
 use Rattle.assignment_dual.proofs.Paths.{mate_unseen}

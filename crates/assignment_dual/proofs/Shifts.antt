@@ -1,16 +1,14 @@
 -- Prices after a shift.
-use Rattle.std.proofs.Common.{◌≡◌, ◌≢◌, ◌≤◌, ◌<◌, ◌⊎◌, inl, inr, ℕ, ◌+◌, length, get_or, true, false, Bool, List, [], ◌∷◌, arith, refl, sym, ◌∙◌, ap, subst}
+use Rattle.std.proofs.Common.{◌≡◌, ◌≢◌, ◌≤◌, ◌<◌, ◌⊎◌, inl, inr, ℕ, ◌+◌, length, get_or, true, false, Bool, List, arith, refl, sym, ◌∙◌, ap, subst}
 use Rattle.std.proofs.lemmas.List.{get_or_past}
-use Rattle.std.proofs.lemmas.Bool.{cases_eq, cases_lt, cases_Bool}
+use Rattle.std.proofs.lemmas.Bool.{cases_lt, cases_Bool}
 use Rattle.assignment_dual.specs.declared.graph.Graph.{Graph}
 use Rattle.assignment_dual.specs.declared.search.Node.{Node}
 use Rattle.assignment_dual.specs.Pairings.{MISS}
-use Rattle.assignment_dual.specs.Vertices.{Across, HasArc, to_of, cost_at, GoesBack, IsArc, IsGraph, IsPriced, Tight, AreMates, OthersPay, IsSettled}
-use Rattle.assignment_dual.specs.Search.{SeenAcross, IsSwept, vertex_at, from_at, mate_at, IsSearchTree, ArePaired, IsExhausted, IsPlaced}
-use Rattle.assignment_dual.specs.Rising.{HasRoom, AllHaveRoom, AreRaised, MayShift, AreShifted}
+use Rattle.assignment_dual.specs.Vertices.{Across, HasArc, to_of, cost_at, GoesBack, IsArc, IsGraph, IsPriced, Tight, AreMates}
+use Rattle.assignment_dual.specs.Search.{SeenAcross, IsSwept, mate_at}
+use Rattle.assignment_dual.specs.Rising.{HasRoom, AllHaveRoom}
 use Rattle.assignment_dual.proofs.Turns.{across_differ, across_back, across_thrice, mates_across}
-use Rattle.assignment_dual.proofs.Trees.{root_apart}
-use Rattle.assignment_dual.proofs.Paths.{mate_unseen}
 
 -- x and the mates of those seen
 abbrev pub Rises : List ℕ → List Bool → ℕ → ℕ → Type 0

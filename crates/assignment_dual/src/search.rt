@@ -38,7 +38,10 @@ pub fn slack(graph: &Graph, prices: &Prices, x: usize, k: usize) -> (usize, u32)
     ensures slack { get_or prices.now x 0 + get_or prices.now (to_of graph.now k) 0 + result.1 ≡ cost_at graph.now k + MISS }
 {
     let arc = graph.arcs[k];
-    (arc.to, arc.cost + ALONE - (prices.at(x) + prices.at(arc.to)))
+    (
+        arc.to,
+        arc.cost + ALONE - (prices.at(x) + prices.at(arc.to)),
+    )
 }
 
 /// Where the arc k of x leads, if it is tight and leads to a vertex that isn't seen.

@@ -1,4 +1,4 @@
-use Rattle.std.proofs.Common.{◌≡◌, ◌<◌, ◌+◌, inl, inr, arith, refl, length}
+use Rattle.std.proofs.Common.{◌<◌, ◌+◌, inl, inr, arith, refl, length}
 use Rattle.std.proofs.lemmas.List.{get_or_default}
 use Rattle.assignment_dual.specs.Vertices.{HasArc}
 use Rattle.assignment_dual.proofs.Shifts.{roomy_next}

@@ -1,4 +1,4 @@
-use Rattle.std.proofs.Common.{◌≡◌, ◌<◌, arith, get_or, length, ap, sym, subst, ℕ}
+use Rattle.std.proofs.Common.{◌≡◌, arith, get_or, length, ap}
 use Rattle.assignment_dual.specs.declared.graph.Arc.{Arc}
 use Rattle.assignment_dual.specs.Vertices.{IsArc, to_of, cost_at}
 use Rattle.assignment_dual.proofs.Columns.{arc_read}

@@ -1,4 +1,4 @@
-use Rattle.std.proofs.Common.{◌≡◌, ◌<◌, ℕ, length, get_or, sum, List, Bool, true, false, arith, refl, sym, ◌∙◌, ap, subst, get_or-set_same}
+use Rattle.std.proofs.Common.{◌≡◌, ◌<◌, ℕ, length, get_or, List, Bool, true, false, arith, refl, sym, ◌∙◌, ap, subst, get_or-set_same}
 use Rattle.assignment_dual.specs.Vertices.{to_of, AreResting}
 use Rattle.assignment_dual.proofs.Candidates.{Tried, tried, track_here, trying_next, fixed_track, fixed_none, fixed_pair, others_track, others_none}
 use Rattle.assignment_dual.proofs.tie.fix_plot.Goals as goal
@@ -51,10 +51,12 @@ loop-k-preserved c =
     subst (λ (n : ℕ). AreResting c.args.graph.now n c.take_out-in-loop-k.new.prices c.take_out-in-loop-k.new.mates c.take_out-in-loop-k.new.gone) c.loop-k.invariant.0.resting.priced.count c.in_ok-take_out-2.ensures.resting in
     let q : AreResting c.args.graph.now (length c.args.prices.now) c.put_back.new.prices c.put_back.new.mates c.put_back.new.gone =
     subst (λ (n : ℕ). AreResting c.args.graph.now n c.put_back.new.prices c.put_back.new.mates c.put_back.new.gone) r.priced.count c.in_ok-put_back.ensures.resting in
-    let h : get_or c.loop-k.gone c.index-arc.result.now.to false ≡ false = ap (λ (o : List Bool). get_or o c.index-arc.result.now.to false) c.loop-k.invariant.0.fixed ∙ track_here t c.requires.p in
-    (trying_next c.loop-k.invariant.0 (get_or c.args.tight.now c.loop-k.k-index 0) c.index-arc.result.now.to c.index-arc.result.now.cost refl t.to t.cost h
-    c.take_out-in-loop-k.new.prices c.take_out-in-loop-k.new.mates c.put_back.new.prices c.put_back.new.mates c.take_out-in-loop-k.new.gone c.put_back.new.gone
-    c.in_ok-take_out-2.ensures.gone r (λ z. c.if-from-sum.false (omega (arith, z, c.from.ensures, c.sum.ensures.sum))) c.in_ok-put_back.ensures.gone q, c.in_ok-put_back.ensures.none_seen)
+    let h : get_or c.loop-k.gone c.index-arc.result.now.to false ≡ false = ap (λ (o : List Bool). get_or o c.index-arc.result.now.to false) c.loop-k.invariant.0.fixed ∙ track_here t c.requires.p in (
+      trying_next c.loop-k.invariant.0 (get_or c.args.tight.now c.loop-k.k-index 0) c.index-arc.result.now.to c.index-arc.result.now.cost refl t.to t.cost h
+          c.take_out-in-loop-k.new.prices c.take_out-in-loop-k.new.mates c.put_back.new.prices c.put_back.new.mates c.take_out-in-loop-k.new.gone c.put_back.new.gone
+          c.in_ok-take_out-2.ensures.gone r (λ z. c.if-from-sum.false (omega (arith, z, c.from.ensures, c.sum.ensures.sum))) c.in_ok-put_back.ensures.gone q,
+      c.in_ok-put_back.ensures.none_seen,
+    )
 
 pub returns-clause-fixed : goal.returns-clause-fixed
 returns-clause-fixed c =
