@@ -12,6 +12,7 @@ pub mod Running
 pub mod Runs
 pub mod Settings
 pub mod SomeReplay
+pub mod Stages
 pub mod Stepping
 pub mod Takings
 pub mod Tallying

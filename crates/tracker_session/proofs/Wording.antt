@@ -7,7 +7,8 @@ use Rattle.tracker_session.specs.declared.status.Status.TheVariants.{Usage}
 use Rattle.tracker_session.specs.declared.words.Command.{Command}
 use Rattle.tracker_session.specs.declared.words.Command.TheVariants.{Replay, Check}
 use Rattle.tracker_session.specs.CheckEnds.{CheckCause, CommandEnded, EndOfCheck}
-use Rattle.tracker_session.specs.Ends.{EndOfReplay, IsOfReplay}
+use Rattle.tracker_session.specs.Ends.{EndOfReplay}
+use Rattle.tracker_session.specs.Stages.{CameTo}
 use Rattle.tracker_session.specs.Words.{AreCommand, IsReplay, IsCheck, IsCommand}
 
 replay_same : (a b c d e a' b' c' d' e' : List ℕ) → a ∷ b ∷ c ∷ d ∷ e ∷ [] ≡ a' ∷ b' ∷ c' ∷ d' ∷ e' ∷ [] → (b ≡ b') × (c ≡ c') × (d ≡ d')
@@ -35,5 +36,5 @@ check_of words (Check p) status old new c h prices k = subst (λ (x : List ℕ).
 check_of words (Replay s i o p w) status old new c h prices k = absurd (other_length (codes "replay") (string_bytes s) (string_bytes i) (string_bytes o) c.replay.prices (codes "check") prices (sym c.replay.whole ∙ k.whole))
 
 pub never_usage : (command : Command) (status : Status) (old new : HostState) → CommandEnded command status old new → status ≡ Usage → ⊥
-never_usage (Replay s i o p w) status old new h e = subst IsOfReplay e h.of_replay
+never_usage (Replay s i o p w) status old new h e = subst (λ (x : Status). CameTo (string_bytes s) (string_bytes i) (string_bytes o) x old new) e h.came
 never_usage (Check p) status old new h e = subst (λ (x : Status). CheckCause x old new) e h.cause
