@@ -26,7 +26,7 @@ use Rattle.tracker_session.specs.Stages.{AllOpen, CameTo, IsSettled, RanTo}
 use Rattle.tracker_session.specs.Telling.{LineTold, Told, ToldAtEnd, ToldBehind}
 use Rattle.tracker_session.proofs.Frames.{later_written}
 use Rattle.tracker_session.proofs.Runs.{one_replay}
-use Rattle.tracker_session.proofs.Stages.{came_still, open_still, untouched_still}
+use Rattle.tracker_session.proofs.Stages.{came_still, in_order, open_still, order_still, untouched_still}
 use Rattle.tracker_session.proofs.Telling.{behind_up, done_status, failed_still, line_failed, told_line, told_up}
 
 output_screen : places.Output ≢ places.Screen
@@ -93,7 +93,7 @@ screen_faults old mid u = u.faults places.Screen (λ e. cc) (λ e. cc) (λ e. cc
 done_came : (settings input output line : List ℕ) (t : Status) (old mid new : HostState) → mid.faults places.Screen ≡ old.faults places.Screen → WritesOnly places.Screen mid new → AllOpen settings input output old mid → LineTold line t mid new → CameTo settings input output t old new
 done_came settings input output line Done old mid new faults only all told = open_still settings input output old mid new only all
 done_came settings input output line (Write spot) old mid new faults only all told = subst (λ (x : Spot). CameTo settings input output (Write x) old new) (sym told.0) (open_still settings input output old mid new only all, line_failed old mid new faults told.1.failed)
-done_came settings input output line Memory old mid new faults only all told = tt
+done_came settings input output line Memory old mid new faults only all told = order_still settings input old mid new only (inr (all.settled, inr all.input_read))
 done_came settings input output line Usage old mid new faults only all told = absurd told
 done_came settings input output line (Settings f) old mid new faults only all told = absurd told
 done_came settings input output line (Input offset) old mid new faults only all told = absurd told
@@ -158,10 +158,10 @@ faults_same f g e = cc
 told_settings : (settings input output : List ℕ) (s : Status) (old mid new : HostState) (document : List ℕ) (fault : SettingsFault) → Ran settings input output (Err s) old mid → WritesOnly places.Screen mid new → Has places.Settings old document → documents.IsAnswer document (Err fault) → (HasFailed places.Settings old new → ⊥) → s ≢ Memory → s ≡ Settings fault
 told_settings settings input output (Settings f) old mid new document fault ran only hs is none memory = ap Settings (faults_same f fault (only_answer document (Err f) (Err fault) (ran.fault f refl document hs) is))
 told_settings settings input output (Input offset) old mid new document fault ran only hs is none memory = absurd (no_fault settings old mid document fault ran.came.settled hs is)
-told_settings settings input output (Write spot) old mid new document fault ran only hs is none memory = absurd (no_fault settings old mid document fault ran.came.1.0 hs is)
+told_settings settings input output (Write spot) old mid new document fault ran only hs is none memory = absurd (no_fault settings old mid document fault ran.came.1 hs is)
 told_settings settings input output (Read spot) old mid new document fault ran only hs is none memory = elim ran.came [
-  | inl h ↦ absurd (none (failed_still places.Settings old mid new (λ e. cc) only h.1.0))
-  | inr h ↦ absurd (no_fault settings old mid document fault h.1.0 hs is)
+  | inl h ↦ absurd (none (failed_still places.Settings old mid new (λ e. cc) only h.1))
+  | inr h ↦ absurd (no_fault settings old mid document fault h.1 hs is)
 ]
 told_settings settings input output Memory old mid new document fault ran only hs is none memory = absurd (memory refl)
 told_settings settings input output Done old mid new document fault ran only hs is none memory = absurd ran.came
@@ -179,10 +179,10 @@ told_status : (settings input output : List ℕ) (s : Status) (c : Counts) (old 
 told_status settings input output (Input offset) c old mid new document octets out given fault ran only hs is hi r none memory = subst (λ (x : Option ℕ). IsStatusOf x (Input offset)) (input_fault_of settings input output offset c old mid document octets out given fault ran hs is hi r) refl
 told_status settings input output (Settings f) c old mid new document octets out given fault ran only hs is hi r none memory = absurd (never_both document given f is (ran.fault f refl document hs))
 told_status settings input output (Read spot) c old mid new document octets out given fault ran only hs is hi r none memory = elim ran.came [
-  | inl h ↦ absurd (none.settings (failed_still places.Settings old mid new (λ e. cc) only h.1.0))
-  | inr h ↦ absurd (none.input (failed_still places.Input old mid new (λ e. cc) only h.1.1.0))
+  | inl h ↦ absurd (none.settings (failed_still places.Settings old mid new (λ e. cc) only h.1))
+  | inr h ↦ absurd (none.input (failed_still places.Input old mid new (λ e. cc) only h.2))
 ]
-told_status settings input output (Write spot) c old mid new document octets out given fault ran only hs is hi r none memory = absurd (none.output (failed_still places.Output old mid new (λ e. cc) only ran.came.1.1.1))
+told_status settings input output (Write spot) c old mid new document octets out given fault ran only hs is hi r none memory = absurd (none.output (failed_still places.Output old mid new (λ e. cc) only ran.came.3))
 told_status settings input output Memory c old mid new document octets out given fault ran only hs is hi r none memory = absurd (memory refl)
 told_status settings input output Done c old mid new document octets out given fault ran only hs is hi r none memory = absurd ran.came
 told_status settings input output Usage c old mid new document octets out given fault ran only hs is hi r none memory = absurd ran.came
@@ -222,7 +222,7 @@ settings_memory f e = cc
 pub end_memory : (settings input output : List ℕ) (r : Result Counts Status) (old mid new : HostState) → Ran settings input output r old mid → Told (status_line Memory) mid new → WritesOnly places.Screen mid new → EndOfReplay settings input output Memory old new
 end_memory settings input output r old mid new ran told only =
     record {
-      came = tt;
+      came = order_still settings input old mid new only (in_order settings input output r old mid ran.came);
       settings_fault = λ f e document has. absurd (settings_memory f e);
       refused = λ document f hs is. untouched_still old mid new only (ran.refused document f hs is);
       says = λ document octets hs hi. tt;

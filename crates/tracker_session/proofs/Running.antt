@@ -98,7 +98,7 @@ judged_no_answer octets (NotProved index offset) h is = is
 
 came_judged : (settings input output octets : List ℕ) (s : Status) (old new : HostState) → StopsJudging octets s → WasRead places.Settings settings old new → AreUntouched old new → RanTo settings input output (Err s) old new
 came_judged settings input output octets (Settings fault) old new h r k = (r, k)
-came_judged settings input output octets Memory old new h r k = tt
+came_judged settings input output octets Memory old new h r k = inl k
 came_judged settings input output octets (Input offset) old new h r k = absurd h
 came_judged settings input output octets Done old new h r k = absurd h
 came_judged settings input output octets Usage old new h r k = absurd h
@@ -172,13 +172,16 @@ uses_nothing host = record { bound = λ p s i o. refl; left = λ p s i. refl; go
 nothing_done : (place : Place) (host : HostState) → host.bound place ≡ None → IsUntouched place host host
 nothing_done place host unbound = record { bound = unbound; left = refl; got = refl; faults = refl }
 
+neither_done : (host : HostState) → ((p : Place) → host.bound p ≡ None) → AreUntouched host host
+neither_done host unbound = record { input = nothing_done places.Input host (unbound places.Input); output = nothing_done places.Output host (unbound places.Output) }
+
 -- nothing was done, for want of memory
 pub ran_nothing : (settings input output : List ℕ) (host : HostState) → ((p : Place) → host.bound p ≡ None) → Ran settings input output (Err Memory) host host
 ran_nothing settings input output host unbound = record {
-  came = tt;
+  came = inl (neither_done host unbound);
   answer = λ is. absurd is;
   fault = λ f e document has. absurd cc;
-  refused = λ document f hs is. record { input = nothing_done places.Input host (unbound places.Input); output = nothing_done places.Output host (unbound places.Output) };
+  refused = λ document f hs is. neither_done host unbound;
   front = λ document octets given hs is hi out counts fault r. front_none host host out refl;
   settings_bound = inl (unbound places.Settings);
   input_bound = inl (unbound places.Input);

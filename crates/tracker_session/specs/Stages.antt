@@ -1,5 +1,5 @@
 -- How far a replay came: each step only behind all before it.
-use Rattle.std.specs.Prelude.{◌≡◌, ◌≤◌, ◌⊎◌, ⊤, ℕ, List, length, Some, None, Result, Ok, Err}
+use Rattle.std.specs.Prelude.{◌≡◌, ◌≤◌, ◌⊎◌, ℕ, List, length, Some, None, Result, Ok, Err}
 use Rattle.io_traits.specs.Host.{HostState, IsEmpty}
 use Rattle.io_traits.specs.declared.host.Place.{Place}
 use Rattle.io_traits.specs.declared.host.Place.TheVariants as places
@@ -42,6 +42,10 @@ pub record AllOpen (settings input output : List ℕ) (old new : HostState) : Ty
   pub input_read : WasRead places.Input input old new
   pub output_bound : OutputBound output old new
 
+-- The order of the steps: Input is bound only behind good settings, and Output only behind the reading of Input.
+abbrev pub InOrder : List ℕ → List ℕ → HostState → HostState → Type 0
+InOrder settings input old new = AreUntouched old new ⊎ (IsSettled settings old new × (IsUntouched places.Output old new ⊎ WasRead places.Input input old new))
+
 -- How far a replay of settings, an input and an output with these names came, by its status. A place is told only where it failed.
 abbrev pub CameTo : List ℕ → List ℕ → List ℕ → Status → HostState → HostState → Type 0
 CameTo settings input output (Read spots.Settings) old new = HasFailed places.Settings old new × AreUntouched old new
@@ -51,7 +55,7 @@ CameTo settings input output (Write spots.Output) old new = IsSettled settings o
 CameTo settings input output (Input offset) old new = AllOpen settings input output old new
 CameTo settings input output Done old new = AllOpen settings input output old new
 CameTo settings input output (Write spots.Screen) old new = AllOpen settings input output old new × HasFailed places.Screen old new
-CameTo settings input output Memory old new = ⊤
+CameTo settings input output Memory old new = InOrder settings input old new
 CameTo settings input output _ old new = ⊥
 
 -- .. before Screen got anything
@@ -61,7 +65,7 @@ RanTo settings input output (Err (Read spot)) old new = ((spot ≡ spots.Setting
 RanTo settings input output (Err (Write spot)) old new = (spot ≡ spots.Output) × IsSettled settings old new × WasRead places.Input input old new × HasFailed places.Output old new
 RanTo settings input output (Err (Input offset)) old new = AllOpen settings input output old new
 RanTo settings input output (Ok counts) old new = AllOpen settings input output old new
-RanTo settings input output (Err Memory) old new = ⊤
+RanTo settings input output (Err Memory) old new = InOrder settings input old new
 RanTo settings input output (Err _) old new = ⊥
 
 -- .. of the steps behind the settings
@@ -70,5 +74,5 @@ RanToUnder input output (Err (Read spot)) old new = (spot ≡ spots.Input) × Ha
 RanToUnder input output (Err (Write spot)) old new = (spot ≡ spots.Output) × WasRead places.Input input old new × HasFailed places.Output old new
 RanToUnder input output (Err (Input offset)) old new = WasRead places.Input input old new × OutputBound output old new
 RanToUnder input output (Ok counts) old new = WasRead places.Input input old new × OutputBound output old new
-RanToUnder input output (Err Memory) old new = ⊤
+RanToUnder input output (Err Memory) old new = IsUntouched places.Output old new ⊎ WasRead places.Input input old new
 RanToUnder input output (Err _) old new = ⊥
