@@ -1,7 +1,6 @@
 -- How a command ended.
 use Rattle.std.specs.Prelude.{◌≡◌, ◌≢◌, ◌⊎◌, ⊤, ℕ, List, Option, Some, None, Ok, Err}
 use Rattle.io_traits.specs.Host.{HostState, WritesOnly}
-use Rattle.io_traits.specs.declared.host.Place.{Place}
 use Rattle.io_traits.specs.declared.host.Place.TheVariants as places
 use Rattle.io_traits.specs.declared.host.Way.TheVariants as ways
 use Rattle.admission_log.specs.declared.settings.Settings as admission
@@ -42,10 +41,6 @@ pub record NoFileFailed (old new : HostState) : Type 0 where
   pub settings : HasFailed places.Settings old new → ⊥
   pub input : HasFailed places.Input old new → ⊥
   pub output : HasFailed places.Output old new → ⊥
-
--- no place failed
-abbrev pub NoFailure : HostState → HostState → Type 0
-NoFailure old new = (p : Place) → HasFailed p old new → ⊥
 
 -- Words of no command were refused: only Screen was written.
 pub record IsRefused (status : Status) (old new : HostState) : Type 0 where
