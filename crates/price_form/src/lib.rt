@@ -24,6 +24,6 @@ mod writing;
 
 pub use certs::{Cert, PriceRecord, PricesError};
 pub use checking::check;
-pub use fronts::front_fault;
+pub use fronts::{front_fault, front_fault_stays, one_front_fault};
 pub use reading::{one_price_file, read_prices};
 pub use writing::write_cert;

@@ -6,8 +6,11 @@ use Rattle.price_form.specs.declared.certs.Cert.{Cert}
 use Rattle.price_form.specs.declared.certs.PriceRecord.{PriceRecord}
 use Rattle.price_form.specs.declared.certs.PriceRecord.TheVariants.{Edition, Cert as Certified}
 use Rattle.price_form.specs.Files.{ArePrices, IsFault}
-use Rattle.price_form.specs.Fronts.{IsFrontFault, HasFrontFault}
+use Rattle.price_form.specs.Fronts.{IsFrontFault}
 use Rattle.price_form.proofs.OneFile.{same_records, same_fault, not_both}
+use Rattle.price_form.proofs.OneFront.{one_fault}
+use Rattle.price_form.proofs.FrontFaults.{file_or_fault, some_fault}
+use Rattle.recording.proofs.Codes.{bytes_of}
 use Rattle.tracker_session.specs.Checking.{AllProve, Checks, FirstFails, HasFileFault, HasVerdict, IsFile, IsProved, Verdict, certificates_in, proved, fails, fault}
 use Rattle.tracker_session.specs.CheckRuns.{RecordFails}
 use Rattle.tracker_session.specs.Inputs.{limit}
@@ -70,7 +73,7 @@ fails_fails octets i j p q h k =
 fault_fault : (octets : List ℕ) (p q : ℕ) → HasFileFault octets p → HasFileFault octets q → p ≡ q
 fault_fault octets p q h k =
     elim (cases_lt limit (length octets)) [
-      | inl long ↦ ?
+      | inl long ↦ one_fault (take limit octets) p q (h.front long) (k.front long)
       | inr short ↦ same_fault octets p q (h.whole short) (k.whole short)
     ]
 
@@ -120,4 +123,11 @@ verdict_on octets records file = elim (judged records) [
 ]
 
 pub some_verdict : (octets : List ℕ) → All (λ octet. octet < 256) octets → HasVerdict octets
-some_verdict octets bytes = ?
+some_verdict octets all = elim (cases_lt limit (length octets)) [
+  | inl long ↦ (let f = some_fault (take limit octets) (front_bytes limit octets (bytes_of octets all)) in
+      record { verdict = fault f.offset; checks = record { whole = λ short. absurd (omega (arith, long, short)); front = λ _. f.fault } })
+  | inr short ↦ elim (file_or_fault octets (bytes_of octets all)) [
+    | inl file ↦ verdict_on octets file.0 (record { within = short; prices = file.1 })
+    | inr bad ↦ record { verdict = fault bad.0; checks = record { whole = λ _. bad.1; front = λ long. absurd (omega (arith, long, short)) } }
+  ]
+]

@@ -1,5 +1,5 @@
 -- Words are one command.
-use Rattle.std.proofs.Common.{◌≡◌, ◌∙◌, sym, subst, inl, inr, ℕ, List, [], ◌∷◌}
+use Rattle.std.proofs.Common.{◌≡◌, ◌∙◌, sym, refl, subst, inl, inr, ℕ, List, [], ◌∷◌}
 use Rattle.std.specs.Prelude.{string_bytes, codes}
 use Rattle.io_traits.specs.Host.{HostState}
 use Rattle.tracker_session.specs.declared.status.Status.{Status}
@@ -9,7 +9,7 @@ use Rattle.tracker_session.specs.declared.words.Command.TheVariants.{Replay, Che
 use Rattle.tracker_session.specs.CheckEnds.{CheckCameTo, CommandEnded, EndOfCheck}
 use Rattle.tracker_session.specs.Ends.{EndOfReplay}
 use Rattle.tracker_session.specs.Stages.{CameTo}
-use Rattle.tracker_session.specs.Words.{AreCommand, IsReplay, IsCheck, IsCommand}
+use Rattle.tracker_session.specs.Words.{AreCommand, HasNames, IsReplay, IsCheck, IsCommand, IsName}
 
 replay_same : (a b c d e a' b' c' d' e' : List ℕ) → a ∷ b ∷ c ∷ d ∷ e ∷ [] ≡ a' ∷ b' ∷ c' ∷ d' ∷ e' ∷ [] → (b ≡ b') × (c ≡ c') × (d ≡ d')
 replay_same a b c d e a' b' c' d' e' h = (cc, cc, cc)
@@ -19,6 +19,22 @@ check_same a b a' b' h = cc
 
 other_length : (a b c d e a' b' : List ℕ) → a ∷ b ∷ c ∷ d ∷ e ∷ [] ≡ a' ∷ b' ∷ [] → ⊥
 other_length a b c d e a' b' h = cc
+
+-- the command with these names is what the words say
+pub command_of : (settings input output prices : List ℕ) (words : List (List ℕ)) (command : Command) → words ≡ codes "replay" ∷ settings ∷ input ∷ output ∷ prices ∷ [] → IsName settings → IsName input → IsName output → IsName prices → HasNames settings input output prices command → IsCommand words command
+command_of settings input output prices words (Replay s i o p w) whole a b c d h = record {
+  replay = record {
+    prices = string_bytes p;
+    whole = whole ∙ (λ k. codes "replay" ∷ sym h.settings_are k ∷ sym h.input_is k ∷ sym h.output_is k ∷ sym h.prices_are k ∷ []);
+    settings_name = subst IsName (sym h.settings_are) a;
+    input_name = subst IsName (sym h.input_is) b;
+    output_name = subst IsName (sym h.output_is) c;
+    prices_name = subst IsName (sym h.prices_are) d;
+  };
+  prices_are = refl;
+  one_worker = h.one_worker;
+}
+command_of settings input output prices words (Check p) whole a b c d h = absurd h
 
 pub is_command : (words : List (List ℕ)) (command : Command) → IsCommand words command → AreCommand words
 is_command words (Replay s i o p w) c = inl (string_bytes s, string_bytes i, string_bytes o, c.replay)

@@ -78,7 +78,7 @@ fn prove_all<R: Threads + Sync>(
     records: &[PriceRecord],
 ) -> Result<Vec<bool>, AllocError>
     requires { All IsRecord records.now }
-    ensures { IfOk result (λ v. AllZip (λ record answer. IsTrue answer ↔ IsProved record) records.now v.items) }
+    ensures { IfOk result (λ v. AllZip (λ one answer. IsTrue answer ↔ IsProved one) records.now v.items) }
 {
     records
         .par_iter()
@@ -93,7 +93,7 @@ fn prove_all<R: Threads + Sync>(
 
 // How many certificates there are, if all prove by these answers; else the first that doesn't.
 fn count_proved(records: &[PriceRecord], answers: &[bool]) -> Result<u64, Status>
-    requires { AllZip (λ record answer. IsTrue answer ↔ IsProved record) records.now answers.now }
+    requires { AllZip (λ one answer. IsTrue answer ↔ IsProved one) records.now answers.now }
     ensures { MatchResult result (RecordsProve records.now) (StopsProving records.now) }
 {
     let mut index = 0;

@@ -9,4 +9,4 @@ returns g c =
     let slice = ap (λ it. it.slice.now) c.map.ensures.base ∙ c.par_iter.ensures in
     IfOk-then c.collect.result _ _ c.collect.ensures (λ v h.
     let chain = h.1 in
-    rw h.2 (slice-AllZip chain.0 c.args.records.now (chain.1 ∙ slice) (λ record' answer. IsTrue answer ↔ IsProved record') h.0 chain.2))
+    rw h.2 (slice-AllZip chain.0 c.args.records.now (chain.1 ∙ slice) (λ one answer. IsTrue answer ↔ IsProved one) h.0 chain.2))
