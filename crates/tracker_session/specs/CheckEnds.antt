@@ -52,17 +52,13 @@ pub record UsesPricesAndScreen (old new : HostState) : Type 0 where
 pub record EndOfCheck (prices : List ℕ) (status : Status) (old new : HostState) : Type 0 where
   -- The status is the verdict on what Prices had: all of it in the grammar and within the limit, and then each certificate.
   pub verdict : (octets : List ℕ) → Has places.Prices old octets → Says octets status old new
-
   -- Where Prices didn't fail and memory isn't wanting, the status is that of the verdict, also where Screen fails.
   pub complete : (octets : List ℕ) (verdict : Verdict) → Has places.Prices old octets → Checks octets verdict → (HasFailed places.Prices old new → ⊥) → status ≢ Memory → IsStatusOfVerdict verdict status
-
   -- How far it came; Prices is bound at most once, to its word.
   pub came : CheckCameTo prices status old new
   pub bound : BoundAtMost (new.bound places.Prices) ways.Read prices
-
   -- Screen got the line of the number of certificates at Done, and else the text of the status, cut short only where Screen failed.
   pub screen : ToldAtEnd proved_line status old new
-
   -- No other place is bound, read or written.
   pub uses : UsesPricesAndScreen old new
 

@@ -52,24 +52,18 @@ pub record IsRefused (status : Status) (old new : HostState) : Type 0 where
 pub record EndOfReplay (settings input output : List ℕ) (status : Status) (old new : HostState) : Type 0 where
   -- How far it came: the settings are judged before Input is bound, and Input is read before Output is.
   pub came : CameTo settings input output status old new
-
   -- A fault of the settings is the first one of what Settings had. Where they have one, Input and Output are left alone, whatever the status.
   pub settings_fault : (fault : SettingsFault) → status ≡ Settings fault → (document : List ℕ) → Has places.Settings old document → documents.IsAnswer document (Err fault)
   pub refused : (document : List ℕ) (fault : SettingsFault) → Has places.Settings old document → documents.IsAnswer document (Err fault) → AreUntouched old new
-
   -- The status is that of the replay, and Output got exactly its output; at every other status a front of it.
   pub says : (document octets : List ℕ) → Has places.Settings old document → Has places.Input old octets → Says document octets status old new
   pub front : (document octets : List ℕ) (given : admission.Settings) → Has places.Settings old document → documents.IsAnswer document (Ok given) → Has places.Input old octets → ReplayedFront given octets old new
-
   -- Where no file failed and memory isn't wanting, the status is that of the settings and of the replay, also where Screen fails.
   pub complete_settings : (document : List ℕ) (fault : SettingsFault) → Has places.Settings old document → documents.IsAnswer document (Err fault) → (HasFailed places.Settings old new → ⊥) → status ≢ Memory → status ≡ Settings fault
   pub complete : (document octets out : List ℕ) (given : admission.Settings) (counts : Counts) (fault : Option ℕ) → Has places.Settings old document → documents.IsAnswer document (Ok given) → Has places.Input old octets → Replays given octets out counts fault → NoFileFailed old new → status ≢ Memory → IsStatusOf fault status
-
   -- Each place is bound at most once, to its own word.
   pub bound : BoundAtMost (new.bound places.Settings) ways.Read settings × BoundAtMost (new.bound places.Input) ways.Read input × BoundAtMost (new.bound places.Output) ways.Write output
-
   -- Screen got the line of the counts at Done, and else the text of the status, cut short only where Screen failed.
   pub screen : ToldAtEnd counts_line status old new
-
   -- No other place is bound, read or written; Settings and Input aren't written, and Output and Screen aren't read.
   pub uses : UsesFour old new

@@ -251,7 +251,15 @@ fn a_text_that_cant_be_written_leaves_the_status(rt: HostRuntime) -> Result<(), 
 /// A write takes the front that there is room for, and the next fails.
 #[test]
 fn writing_breaks_off(rt: HostRuntime) -> Result<(), Fail> {
-    let (answer, host) = run(&rt, rt.alloc(), &WORDS, SETTINGS, &ONE_PLOT, [10, 1000], &[])?;
+    let (answer, host) = run(
+        &rt,
+        rt.alloc(),
+        &WORDS,
+        SETTINGS,
+        &ONE_PLOT,
+        [10, 1000],
+        &[],
+    )?;
     assert_eq!(rt; answer, Status::Write(Spot::Output));
     assert_eq!(rt; host.got(Place::Output), &PICTURE[..10]);
     assert_eq!(rt; host.got(Place::Screen), "write: Output\n".as_bytes());
@@ -263,7 +271,15 @@ fn writing_breaks_off(rt: HostRuntime) -> Result<(), Fail> {
 
 #[test]
 fn places_are_bound_to_their_words(rt: HostRuntime) -> Result<(), Fail> {
-    let (answer, host) = run(&rt, rt.alloc(), &WORDS, SETTINGS, &ONE_PLOT, [1000, 1000], &[])?;
+    let (answer, host) = run(
+        &rt,
+        rt.alloc(),
+        &WORDS,
+        SETTINGS,
+        &ONE_PLOT,
+        [1000, 1000],
+        &[],
+    )?;
     assert_eq!(rt; answer, Status::Done);
     assert_eq!(rt; host.bound(Place::Settings), Some((Way::Read, "a")));
     assert_eq!(rt; host.bound(Place::Input), Some((Way::Read, "b")));
@@ -306,8 +322,20 @@ fn other_words_are_refused(rt: HostRuntime) -> Result<(), Fail> {
     ];
     for line in lines {
         let words = words_of(rt.alloc(), line)?;
-        assert_eq!(rt; parse_words(rt.alloc(), &words), Err(WordsError::Usage), "at {line:?}");
-        let (answer, host) = run(&rt, rt.alloc(), line, SETTINGS, &ONE_PLOT, [1000, 1000], &[])?;
+        assert_eq!(rt;
+            parse_words(rt.alloc(), &words),
+            Err(WordsError::Usage),
+            "at {line:?}"
+        );
+        let (answer, host) = run(
+            &rt,
+            rt.alloc(),
+            line,
+            SETTINGS,
+            &ONE_PLOT,
+            [1000, 1000],
+            &[],
+        )?;
         assert_eq!(rt; answer, Status::Usage, "at {line:?}");
         assert_eq!(rt; host.bound(Place::Settings), None);
         assert_eq!(rt; host.got(Place::Screen), USAGE.as_bytes());
@@ -336,7 +364,10 @@ fn compare_check(
     screen: &str,
 ) -> Result<(), Fail> {
     let (prices, room, fails) = given;
-    let words = vec![in alloc; String::from_str(alloc, "check")?, String::from_str(alloc, "p")?]?;
+    let words = vec![in alloc;
+        String::from_str(alloc, "check")?,
+        String::from_str(alloc, "p")?,
+    ]?;
     let left = vec![in alloc; (Place::Prices, Vec::from_slice(alloc, prices)?)]?;
     let rooms = vec![in alloc; (Place::Screen, room)]?;
     let mut host = MemHost::new(alloc, left, rooms, Vec::from_slice(alloc, fails)?)?;
