@@ -1,5 +1,5 @@
 -- That a certificate which is begun has a wrong number, or has none.
-use Rattle.std.proofs.Common.{◌≡◌, ◌⊎◌, ℕ, suc, zero, ◌+◌, ◌-◌, ◌*◌, ◌<◌, ◌≤◌, List, length, arith, subst, inl, inr}
+use Rattle.std.proofs.Common.{◌⊎◌, ℕ, suc, zero, ◌+◌, ◌-◌, ◌*◌, ◌<◌, ◌≤◌, List, length, arith, subst, inl, inr}
 use Rattle.std.proofs.lemmas.Bool.{cases_lt, cases_eq}
 use Rattle.assignment_dual.specs.Problems.{Edge, EdgeBefore}
 use Rattle.price_form.specs.Octets.{none_number, half_at, short_at, edge_numbers_at}

@@ -1,5 +1,5 @@
 -- Each front has a fault, and each list of octets is a price file or has one.
-use Rattle.std.proofs.Common.{◌≡◌, ◌≢◌, ◌⊎◌, ℕ, suc, zero, ◌+◌, ◌-◌, ◌<◌, ◌≤◌, List, [], ◌∷◌, ◌++◌, Option, Some, None, length, get_or, take, drop, Bool, true, eqb, arith, refl, sym, ◌∙◌, ap, subst, inl, inr, length-append, append_assoc, append-nil, take-append-drop}
+use Rattle.std.proofs.Common.{◌≡◌, ◌≢◌, ◌⊎◌, ℕ, suc, zero, ◌+◌, ◌<◌, ◌≤◌, List, [], ◌∷◌, ◌++◌, Option, Some, None, length, get_or, take, drop, Bool, true, eqb, arith, refl, sym, ◌∙◌, ap, subst, inl, inr, length-append, append-nil, take-append-drop}
 use Rattle.std.specs.List.{flat_map, All, starts_with}
 use Rattle.std.specs.Option.{MatchOption}
 use Rattle.std.proofs.lemmas.Bool.{cases_lt, cases_eq}
@@ -11,15 +11,13 @@ use Rattle.price_form.specs.declared.certs.PriceRecord.TheVariants.{Edition}
 use Rattle.price_form.specs.Octets.{word_at}
 use Rattle.price_form.specs.Spelling.{record_octets}
 use Rattle.price_form.specs.Files.{magic, IsRecord, StandFrom, ArePrices, StopsAt, IsFault}
-use Rattle.price_form.specs.Reading.{Stands, NoRecord, ReadsRecord, cert_end}
+use Rattle.price_form.specs.Reading.{NoRecord, ReadsRecord, cert_end}
 use Rattle.price_form.specs.Fronts.{HasWrongNumber, IsWrong, IsFrontFault, begins_otherwise, in_magic, is_whole, is_wrong, is_cut_short, HasFrontFault}
-use Rattle.price_form.proofs.Standing.{AreOctets, stands_second}
+use Rattle.price_form.proofs.Standing.{AreOctets}
 use Rattle.price_form.proofs.Filed.{no_edition, no_cert, no_other, edition_read, one_record, stops_here, whole_file}
 use Rattle.price_form.proofs.ReadSteps.{cut_short}
-use Rattle.price_form.proofs.OneFile.{at_front, same_fault, not_both}
 use Rattle.price_form.proofs.Decided.{dec_number}
 use Rattle.price_form.proofs.FineNumbers.{ReadsSome, formed_fine, reads_fine}
-use Rattle.price_form.proofs.GoesOn.{wrong_on}
 
 -- ---- how far the front was read
 

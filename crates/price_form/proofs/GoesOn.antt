@@ -1,10 +1,10 @@
 -- Octets that go on: a number that is whole stays, and so does one that is wrong.
-use Rattle.std.proofs.Common.{◌≡◌, ◌⊎◌, ℕ, ◌+◌, ◌-◌, ◌*◌, ◌<◌, ◌≤◌, List, [], ◌∷◌, ◌++◌, length, get_or, arith, sym, ◌∙◌, ap, subst, inl, inr, length-append}
+use Rattle.std.proofs.Common.{◌≡◌, ◌⊎◌, ℕ, ◌+◌, ◌-◌, ◌*◌, ◌<◌, ◌≤◌, List, [], ◌∷◌, ◌++◌, length, arith, sym, ◌∙◌, ap, subst, inl, inr, length-append}
 use Rattle.std.specs.Int.{w16, w32, from_be_bytes}
 use Rattle.std.proofs.lemmas.List.{get_or_append_left}
 use Rattle.price_form.specs.Octets.{half_at, short_at}
 use Rattle.price_form.specs.Reading.{plots_at, tracks_at, edges_at}
-use Rattle.price_form.specs.Fronts.{edges_place, pairing_place, IsOutOfRange, IsWrongEdge, HasWrongEdge, IsWrongEntry, HasWrongEntry, HasWrongNumber, no_plots, many_tracks, in_edges, in_pairing, IsWrong}
+use Rattle.price_form.specs.Fronts.{edges_place, pairing_place, IsOutOfRange, IsWrongEdge, HasWrongEdge, HasWrongEntry, HasWrongNumber, no_plots, many_tracks, in_edges, in_pairing, IsWrong}
 use Rattle.price_form.proofs.WrongNumbers.{edge_begun}
 
 half_on : (xs more : List ℕ) (q : ℕ) → q + 4 ≤ length xs → half_at (xs ++ more) q ≡ half_at xs q

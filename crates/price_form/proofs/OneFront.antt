@@ -1,7 +1,6 @@
 -- Each front has one fault alone, which stays where it stands before the end.
-use Rattle.std.proofs.Common.{◌≡◌, ◌≢◌, ℕ, ◌+◌, ◌<◌, ◌≤◌, List, [], ◌++◌, length, arith, sym, ◌∙◌, ap, subst, inl, inr, length-append, append_assoc, append-nil}
+use Rattle.std.proofs.Common.{◌≡◌, ◌≢◌, ℕ, ◌<◌, List, [], ◌++◌, length, arith, sym, ◌∙◌, ap, subst, inl, inr, length-append, append_assoc, append-nil}
 use Rattle.std.specs.List.{flat_map}
-use Rattle.price_form.specs.declared.certs.PriceRecord.{PriceRecord}
 use Rattle.price_form.specs.Spelling.{record_octets}
 use Rattle.price_form.specs.Files.{magic, StopsAt, IsFault}
 use Rattle.price_form.specs.Reading.{Stands}

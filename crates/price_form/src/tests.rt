@@ -12,17 +12,20 @@ const ONE: [u8; 63] = [
 // Two plots and two tracks, where each plot costs 1 with the first track and 2 with the second. The
 // pairing is 0, 1, the prices of the plots are 2 and 2, and those of the tracks -1 and 0.
 const TIE: [u8; 138] = [
-    0x4D, 0x52, 0x50, 0x31, 0x02, 0, 0, 0, 0, 0, 0x01, 0x19, 0x40, 0, 0, 0, 0, 2, 0, 0, 0, 2, 0, 0, 0,
-    0, 0, 0, 0, 2, 0, 0, 0, 0, 0, 0, 0, 3, 0, 0, 0, 0, 0, 0, 0, 0, 0, 0, 0, 0, 0, 0, 0, 1, 0, 0, 0, 4,
-    0, 0, 0, 0, 0, 0, 0, 0, 0, 1, 0, 0, 0, 0, 0, 0, 0, 1, 0, 2, 0, 0, 0, 1, 0, 0, 0, 0, 0, 1, 0, 0, 0,
-    1, 0, 0, 0, 1, 0, 2, 0, 0, 0, 0, 0, 0, 0, 1, 0, 0, 0, 0, 0, 0, 0, 2, 0, 0, 0, 0, 0, 0, 0, 2, 0xFF,
-    0xFF, 0xFF, 0xFF, 0xFF, 0xFF, 0xFF, 0xFF, 0, 0, 0, 0, 0, 0, 0, 0,
+    0x4D, 0x52, 0x50, 0x31, 0x02, 0, 0, 0, 0, 0, 0x01, 0x19, 0x40, 0, 0, 0, 0, 2, 0, 0, 0, 2, 0, 0,
+    0, 0, 0, 0, 0, 2, 0, 0, 0, 0, 0, 0, 0, 3, 0, 0, 0, 0, 0, 0, 0, 0, 0, 0, 0, 0, 0, 0, 0, 1, 0, 0,
+    0, 4, 0, 0, 0, 0, 0, 0, 0, 0, 0, 1, 0, 0, 0, 0, 0, 0, 0, 1, 0, 2, 0, 0, 0, 1, 0, 0, 0, 0, 0, 1,
+    0, 0, 0, 1, 0, 0, 0, 1, 0, 2, 0, 0, 0, 0, 0, 0, 0, 1, 0, 0, 0, 0, 0, 0, 0, 2, 0, 0, 0, 0, 0, 0,
+    0, 2, 0xFF, 0xFF, 0xFF, 0xFF, 0xFF, 0xFF, 0xFF, 0xFF, 0, 0, 0, 0, 0, 0, 0, 0,
 ];
 
 // Where the numbers of the tie stand.
 const FIRST_U: usize = 106;
+
 const SECOND_U: usize = 114;
+
 const FIRST_V: usize = 122;
+
 const SECOND_V: usize = 130;
 
 fn with_octet(mut file: [u8; 138], at: usize, octet: u8) -> [u8; 138] {
@@ -117,7 +120,10 @@ fn faults(alloc: Global, file: &[u8], end: usize) -> Option<(usize, usize)> {
         return None;
     }
     match read_prices(alloc, file) {
-        Err(PricesError::Fault { offset }) => Some((offset, front_fault(alloc, &file[..end]).ok()?)),
+        Err(PricesError::Fault { offset }) => Some((
+            offset,
+            front_fault(alloc, &file[..end]).ok()?,
+        )),
         _ => None,
     }
 }

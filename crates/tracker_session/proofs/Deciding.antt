@@ -2,6 +2,7 @@
 use Rattle.std.proofs.Common.{◌≡◌, ◌≢◌, ap, refl, inl, inr, ℕ, ◌⊎◌, List, [], ◌∷◌, length, ℤ, pos, ◌+ℤ◌, ◌≤ℤ◌, ◌<ℤ◌, All, Option, Some, None, IsSome, arith}
 use Rattle.std.proofs.lemmas.Bool.{cases_eq}
 use Rattle.std.proofs.lemmas.Cmp.{int_ranked}
+use Rattle.std.proofs.lemmas.Int.{ints}
 use Rattle.std.proofs.lemmas.List.Elements.{All-nil, All-cons, All-head, All-tail}
 use Rattle.std.specs.Ordering.{int_cmp, MatchOrdering}
 use Rattle.std.specs.declared.cmp.Ordering.{Ordering}
@@ -38,16 +39,16 @@ in_order x y Greater h = inr (inr h)
 
 at_most : (x y : ℤ) → Decided (x ≤ℤ y)
 at_most x y = elim (in_order x y (int_cmp x y) (int_ranked x y (int_cmp x y) refl)) [
-  | inl less ↦ inl (omega (arith, less))
-  | inr (inl e) ↦ inl (omega (arith, e))
-  | inr (inr more) ↦ inr (λ h. omega (arith, more, h))
+  | inl less ↦ inl (omega (arith, ints, less))
+  | inr (inl e) ↦ inl (omega (arith, ints, e))
+  | inr (inr more) ↦ inr (λ h. omega (arith, ints, more, h))
 ]
 
 same_number : (x y : ℤ) → Decided (x ≡ y)
 same_number x y = elim (in_order x y (int_cmp x y) (int_ranked x y (int_cmp x y) refl)) [
-  | inl less ↦ inr (λ e. omega (arith, less, e))
+  | inl less ↦ inr (λ e. omega (arith, ints, less, e))
   | inr (inl e) ↦ inl e
-  | inr (inr more) ↦ inr (λ e. omega (arith, more, e))
+  | inr (inr more) ↦ inr (λ e. omega (arith, ints, more, e))
 ]
 
 -- ---- a pairing

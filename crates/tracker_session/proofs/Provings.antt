@@ -1,6 +1,7 @@
 -- The certificates of a price file, one after the other.
-use Rattle.std.proofs.Common.{◌≡◌, ◌∙◌, ap, sym, refl, subst, ℕ, ◌+◌, ◌<◌, ◌≤◌, List, ◌∷◌, ◌++◌, length, take, drop, get_or, true, false, All, Result, Ok, Err, arith}
+use Rattle.std.proofs.Common.{◌≡◌, ◌∙◌, ap, sym, refl, subst, ◌↔◌, ℕ, zero, suc, ◌+◌, ◌<◌, ◌≤◌, List, [], ◌∷◌, ◌++◌, length, take, drop, get_or, Bool, IsTrue, true, false, All, Result, Ok, Err, arith}
 use Rattle.std.specs.Prelude.{MatchResult}
+use Rattle.std.specs.List.{AllZip}
 use Rattle.std.proofs.lemmas.List.{take-append-drop, take_all, drop_more}
 use Rattle.std.proofs.lemmas.List.Elements.{All-nil, All-more}
 use Rattle.std.proofs.lemmas.List.Sums.{count_by_more_yes, count_by_more_no}
@@ -17,6 +18,19 @@ pub record Counted (records : List PriceRecord) (i index : ℕ) : Type 0 where
   pub counted : index ≡ certificates_in (take i records)
   pub small : index ≤ i
   pub each : All IsProved (take i records)
+
+-- what two lists say place by place, at a place
+pub zip_at : {A B : Type 0} (R : A → B → Type 0) (xs : List A) (ys : List B) (i : ℕ) (d : A) (e : B) → AllZip R xs ys → i < length xs → R (get_or xs i d) (get_or ys i e)
+zip_at R [] ys i d e h lt = absurd (omega arith)
+zip_at R (x ∷ xs) [] i d e h lt = absurd h
+zip_at R (x ∷ xs) (y ∷ ys) zero d e h lt = h.0
+zip_at R (x ∷ xs) (y ∷ ys) (suc i) d e h lt = zip_at R xs ys i d e h.1 (omega arith)
+
+-- the answer at the place of a record is that record's
+pub says_at : (records : List PriceRecord) (answers : List Bool) (i : ℕ) (r : PriceRecord) → AllZip (λ one answer. IsTrue answer ↔ IsProved one) records answers → i < length records → get_or records i r ≡ r → IsTrue (get_or answers i false) ↔ IsProved r
+says_at records answers i r h lt e =
+    let here = zip_at (λ one answer. IsTrue answer ↔ IsProved one) records answers i r false h lt in
+    (λ t. subst IsProved e (here.0 t), λ p. here.1 (subst IsProved (sym e) p))
 
 pub counted_none : (records : List PriceRecord) → Counted records 0 0
 counted_none records = record { counted = refl; small = omega arith; each = All-nil IsProved }

@@ -31,25 +31,25 @@ checks_alike a b (fault offset) (inr both) h =
 
 -- ---- one at most
 
-same_head : {X : Type 0} (c d : X) (as bs : List X) → c ∷ as ≡ d ∷ bs → c ≡ d
-same_head c d as bs e = cc
+same_head : {X : Type 0} (c d : X) (cs ds : List X) → c ∷ cs ≡ d ∷ ds → c ≡ d
+same_head c d cs ds e = cc
 
-same_tail : {X : Type 0} (c d : X) (as bs : List X) → c ∷ as ≡ d ∷ bs → as ≡ bs
-same_tail c d as bs e = cc
+same_tail : {X : Type 0} (c d : X) (cs ds : List X) → c ∷ cs ≡ d ∷ ds → cs ≡ ds
+same_tail c d cs ds e = cc
 
 -- the first that fails stands at one place
-one_first : {X : Type 0} (P : X → Type 0) (xs ys as bs : List X) (c d : X) → xs ++ c ∷ as ≡ ys ++ d ∷ bs → All P xs → (P c → ⊥) → All P ys → (P d → ⊥) → (xs ≡ ys) × (c ≡ d)
-one_first P [] [] as bs c d e all not all' not' = (refl, same_head c d as bs e)
-one_first P [] (y ∷ ys) as bs c d e all not all' not' = absurd (not (subst P (sym (same_head c y as (ys ++ d ∷ bs) e)) (All-head P y ys all')))
-one_first P (x ∷ xs) [] as bs c d e all not all' not' = absurd (not' (subst P (same_head x d (xs ++ c ∷ as) bs e) (All-head P x xs all)))
-one_first P (x ∷ xs) (y ∷ ys) as bs c d e all not all' not' =
-    let rest = one_first P xs ys as bs c d (same_tail x y (xs ++ c ∷ as) (ys ++ d ∷ bs) e) (All-tail P x xs all) not (All-tail P y ys all') not' in
-    let head = same_head x y (xs ++ c ∷ as) (ys ++ d ∷ bs) e in
+one_first : {X : Type 0} (P : X → Type 0) (xs ys cs ds : List X) (c d : X) → xs ++ c ∷ cs ≡ ys ++ d ∷ ds → All P xs → (P c → ⊥) → All P ys → (P d → ⊥) → (xs ≡ ys) × (c ≡ d)
+one_first P [] [] cs ds c d e all not all' not' = (refl, same_head c d cs ds e)
+one_first P [] (y ∷ ys) cs ds c d e all not all' not' = absurd (not (subst P (sym (same_head c y cs (ys ++ d ∷ ds) e)) (All-head P y ys all')))
+one_first P (x ∷ xs) [] cs ds c d e all not all' not' = absurd (not' (subst P (same_head x d (xs ++ c ∷ cs) ds e) (All-head P x xs all)))
+one_first P (x ∷ xs) (y ∷ ys) cs ds c d e all not all' not' =
+    let rest = one_first P xs ys cs ds c d (same_tail x y (xs ++ c ∷ cs) (ys ++ d ∷ ds) e) (All-tail P x xs all) not (All-tail P y ys all') not' in
+    let head = same_head x y (xs ++ c ∷ cs) (ys ++ d ∷ ds) e in
     ((λ i. head i ∷ rest.0 i), rest.1)
 
-middle : {X : Type 0} (P : X → Type 0) (xs as : List X) (c : X) → All P (xs ++ c ∷ as) → P c
-middle P [] as c h = All-head P c as h
-middle P (x ∷ xs) as c h = middle P xs as c (All-tail P x (xs ++ c ∷ as) h)
+middle : {X : Type 0} (P : X → Type 0) (xs cs : List X) (c : X) → All P (xs ++ c ∷ cs) → P c
+middle P [] cs c h = All-head P c cs h
+middle P (x ∷ xs) cs c h = middle P xs cs c (All-tail P x (xs ++ c ∷ cs) h)
 
 same_place : (c d : Cert) (p q : ℕ) → Certified c p ≡ Certified d q → p ≡ q
 same_place c d p q e = cc

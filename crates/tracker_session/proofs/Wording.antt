@@ -1,5 +1,5 @@
 -- Words are one command.
-use Rattle.std.proofs.Common.{◌≡◌, ◌∙◌, sym, refl, subst, inl, inr, ℕ, List, [], ◌∷◌}
+use Rattle.std.proofs.Common.{◌≡◌, ◌<◌, ◌≤◌, ◌∙◌, sym, refl, subst, inl, inr, ℕ, List, [], ◌∷◌, length, get_or, arith}
 use Rattle.std.specs.Prelude.{string_bytes, codes}
 use Rattle.io_traits.specs.Host.{HostState}
 use Rattle.tracker_session.specs.declared.status.Status.{Status}
@@ -10,6 +10,14 @@ use Rattle.tracker_session.specs.CheckEnds.{CheckCameTo, CommandEnded, EndOfChec
 use Rattle.tracker_session.specs.Ends.{EndOfReplay}
 use Rattle.tracker_session.specs.Stages.{CameTo}
 use Rattle.tracker_session.specs.Words.{AreCommand, HasNames, IsReplay, IsCheck, IsCommand, IsName}
+
+pub two : {A : Type 0} (xs : List A) (a b : A) → 2 ≤ length xs → length xs < 3 → a ≡ get_or xs 0 a → b ≡ get_or xs 1 b → xs ≡ a ∷ b ∷ []
+two (v ∷ w ∷ []) a b long short ea eb = λ i. sym ea i ∷ sym eb i ∷ []
+two xs a b long short ea eb = absurd (omega arith)
+
+pub five : {A : Type 0} (xs : List A) (a b c d e : A) → 5 ≤ length xs → length xs < 6 → a ≡ get_or xs 0 a → b ≡ get_or xs 1 b → c ≡ get_or xs 2 c → d ≡ get_or xs 3 d → e ≡ get_or xs 4 e → xs ≡ a ∷ b ∷ c ∷ d ∷ e ∷ []
+five (v ∷ w ∷ x ∷ y ∷ z ∷ []) a b c d e long short ea eb ec ed ee = λ i. sym ea i ∷ sym eb i ∷ sym ec i ∷ sym ed i ∷ sym ee i ∷ []
+five xs a b c d e long short ea eb ec ed ee = absurd (omega arith)
 
 replay_same : (a b c d e a' b' c' d' e' : List ℕ) → a ∷ b ∷ c ∷ d ∷ e ∷ [] ≡ a' ∷ b' ∷ c' ∷ d' ∷ e' ∷ [] → (b ≡ b') × (c ≡ c') × (d ≡ d')
 replay_same a b c d e a' b' c' d' e' h = (cc, cc, cc)

@@ -98,11 +98,14 @@ fn count_proved(records: &[PriceRecord], answers: &[bool]) -> Result<u64, Status
 {
     let mut index = 0;
     for (i, record) in records.iter().enumerate() {
-        if let PriceRecord::Cert { at, .. } = record {
-            if !answers[i] {
-                return Err(Status::NotProved { index, offset: *at });
+        match record {
+            PriceRecord::Edition { .. } => {}
+            PriceRecord::Cert { at, .. } => {
+                if !answers[i] {
+                    return Err(Status::NotProved { index, offset: *at });
+                }
+                index += 1;
             }
-            index += 1;
         }
     }
     Ok(index)

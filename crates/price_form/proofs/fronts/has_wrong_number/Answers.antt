@@ -1,6 +1,5 @@
-use Rattle.std.proofs.Common.{◌≡◌, ◌+◌, ◌*◌, ◌∙◌}
+use Rattle.std.proofs.Common.{◌+◌, ◌*◌, ◌∙◌}
 use Rattle.price_form.specs.Octets.{half_at}
-use Rattle.price_form.specs.Reading.{edges_at}
 use Rattle.price_form.specs.Fronts.{in_edges}
 use Rattle.price_form.proofs.WrongNumbers.{edges_read, number_answer}
 use Rattle.price_form.proofs.fronts.has_wrong_number.Goals as goal
