@@ -7,7 +7,7 @@ use Rattle.std.proofs.lemmas.List.Elements.{All-nil, All-more}
 use Rattle.std.proofs.lemmas.List.Sums.{count_by_more_yes, count_by_more_no}
 use Rattle.price_form.specs.declared.certs.Cert.{Cert}
 use Rattle.price_form.specs.declared.certs.PriceRecord.{PriceRecord}
-use Rattle.price_form.specs.declared.certs.PriceRecord.TheVariants.{Edition, Cert as Certified}
+use Rattle.price_form.specs.declared.certs.PriceRecord.TheVariants.{Cert as Certified}
 use Rattle.tracker_session.specs.declared.status.Status.{Status}
 use Rattle.tracker_session.specs.declared.status.Status.TheVariants.{Done, Usage, Settings, Input, Read, Write, Memory, NotProved}
 use Rattle.tracker_session.specs.Checking.{IsFile, IsProved, certificates_in, is_certificate}

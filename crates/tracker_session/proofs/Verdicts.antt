@@ -1,11 +1,10 @@
 -- Octets have exactly one verdict as a price file.
-use Rattle.std.proofs.Common.{◌≡◌, ◌∙◌, ap, sym, refl, subst, inl, inr, ℕ, ◌<◌, ◌≤◌, ◌⊎◌, List, [], ◌∷◌, ◌++◌, length, take, All, arith}
+use Rattle.std.proofs.Common.{◌≡◌, ◌∙◌, ap, sym, refl, subst, inl, inr, ℕ, ◌<◌, ◌⊎◌, List, [], ◌∷◌, ◌++◌, length, take, All, arith}
 use Rattle.std.proofs.lemmas.Bool.{cases_lt}
 use Rattle.std.proofs.lemmas.List.Elements.{All-nil, All-cons, All-head, All-tail}
 use Rattle.price_form.specs.declared.certs.Cert.{Cert}
 use Rattle.price_form.specs.declared.certs.PriceRecord.{PriceRecord}
 use Rattle.price_form.specs.declared.certs.PriceRecord.TheVariants.{Edition, Cert as Certified}
-use Rattle.price_form.specs.Files.{ArePrices, IsFault}
 use Rattle.price_form.specs.Fronts.{IsFrontFault}
 use Rattle.price_form.proofs.OneFile.{same_records, same_fault, not_both}
 use Rattle.price_form.proofs.OneFront.{one_fault}
@@ -16,7 +15,7 @@ use Rattle.tracker_session.specs.CheckRuns.{RecordFails}
 use Rattle.tracker_session.specs.Inputs.{limit}
 use Rattle.tracker_session.proofs.Deciding.{record_proves}
 use Rattle.tracker_session.proofs.Inputs.{front_bytes}
-use Rattle.tracker_session.proofs.Outcomes.{Alike, BothLong}
+use Rattle.tracker_session.proofs.Outcomes.{Alike}
 
 -- files that are one, or both pass the limit and are one before it, have one verdict
 pub checks_alike : (a b : List ℕ) (v : Verdict) → Alike a b → Checks a v → Checks b v

@@ -1,10 +1,4 @@
-use Rattle.std.proofs.Common.{◌≡◌, ℕ, List, inl, inr}
-use Rattle.io_traits.specs.declared.host.Place.TheVariants as places
 use Rattle.tracker_session.specs.Words.{texts}
-use Rattle.tracker_session.specs.declared.status.Status.TheVariants.{Memory}
-use Rattle.tracker_session.proofs.Finishing.{end_status}
-use Rattle.tracker_session.proofs.FinishingCheck.{check_status, check_memory, reads_nothing}
-use Rattle.tracker_session.proofs.Running.{ran_nothing}
 use Rattle.tracker_session.proofs.Wording.{is_command, never_usage, replay_of, check_of}
 use Rattle.tracker_session.proofs.batch.run_batch.Goals as goal
 

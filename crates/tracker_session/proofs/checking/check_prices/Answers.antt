@@ -1,5 +1,4 @@
-use Rattle.std.proofs.Common.{rules, ◌≡◌, ℕ, List, inl, inr, subst, Result, Err}
-use Rattle.tracker_session.specs.declared.status.Status.{Status}
+use Rattle.std.proofs.Common.{rules, ◌≡◌, ℕ, List, inl, inr, subst, Err}
 use Rattle.tracker_session.specs.CheckRuns.{Judged}
 use Rattle.tracker_session.proofs.checking.check_prices.Goals as goal
 

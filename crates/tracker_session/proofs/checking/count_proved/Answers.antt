@@ -1,7 +1,7 @@
 use Rattle.std.proofs.Common.{rules, ◌≡◌, ◌↔◌, ◌∙◌, ◌+◌, ℕ, IsTrue, true, false, true≢false, get_or, refl, sym, subst, arith}
 use Rattle.std.proofs.lemmas.Slice.Zip.{AllZip-long}
 use Rattle.price_form.specs.declared.certs.PriceRecord.{PriceRecord}
-use Rattle.price_form.specs.declared.certs.PriceRecord.TheVariants.{Edition, Cert as Certified}
+use Rattle.price_form.specs.declared.certs.PriceRecord.TheVariants.{Cert as Certified}
 use Rattle.tracker_session.specs.Checking.{IsProved}
 use Rattle.tracker_session.proofs.Provings.{Counted, counted_cert, counted_edition, counted_fails, says_at}
 use Rattle.tracker_session.proofs.checking.count_proved.Goals as goal

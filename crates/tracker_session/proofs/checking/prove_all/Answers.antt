@@ -1,4 +1,4 @@
-use Rattle.std.proofs.Common.{◌≡◌, ◌↔◌, IsTrue, ap, ◌∙◌}
+use Rattle.std.proofs.Common.{◌↔◌, IsTrue, ap, ◌∙◌}
 use Rattle.rayon.proofs.ListFacts.{IfOk-then}
 use Rattle.rayon.proofs.ToStd.{slice-AllZip}
 use Rattle.tracker_session.specs.Checking.{IsProved}

@@ -1,4 +1,4 @@
-use Rattle.std.proofs.Common.{rules, ◌≡◌, ◌∷◌, [], ℕ, List}
+use Rattle.std.proofs.Common.{rules, ◌≡◌, ◌∷◌, []}
 use Rattle.std.specs.Prelude.{codes}
 use Rattle.tracker_session.specs.Words.{IsName}
 use Rattle.tracker_session.proofs.Wording.{command_of}
