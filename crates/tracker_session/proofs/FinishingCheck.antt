@@ -1,10 +1,8 @@
 -- The end of a check of a price file: what came of it, and what Screen got.
-use Rattle.std.proofs.Common.{◌≡◌, ◌≢◌, ◌∙◌, ap, sym, refl, subst, inl, inr, ℕ, ◌≤◌, ◌⊎◌, List, length, arith}
+use Rattle.std.proofs.Common.{◌≡◌, ◌≢◌, ◌∙◌, sym, refl, subst, inl, inr, ℕ, ◌⊎◌, List, arith}
 use Rattle.std.specs.Prelude.{Option, Result, Ok, Err}
 use Rattle.std.specs.Io.KnownBytes.{Appends}
-use Rattle.io_traits.specs.Faults.{Rose}
-use Rattle.io_traits.specs.Host.{HostState, IsEmpty, WritesOnly}
-use Rattle.io_traits.specs.declared.host.Place.{Place}
+use Rattle.io_traits.specs.Host.{HostState, WritesOnly}
 use Rattle.io_traits.specs.declared.host.Place.TheVariants as places
 use Rattle.io_traits.specs.declared.host.Way.{Way}
 use Rattle.io_traits.specs.declared.host.Way.TheVariants as ways
@@ -14,11 +12,11 @@ use Rattle.tracker_session.specs.declared.status.Status.{Status}
 use Rattle.tracker_session.specs.declared.status.Status.TheVariants.{Done, Usage, Settings, Input, Read, Write, Memory, NotProved}
 use Rattle.tracker_session.specs.Checking.{Verdict, Checks, proved, fails, fault}
 use Rattle.tracker_session.specs.CheckEnds.{CheckCameTo, EndOfCheck, IsStatusOfVerdict, Says, UsesPricesAndScreen}
-use Rattle.tracker_session.specs.CheckRuns.{CheckRan, BrokeOff, WasJudged, Judged}
+use Rattle.tracker_session.specs.CheckRuns.{CheckRan, WasJudged}
 use Rattle.tracker_session.specs.Places.{Has, BoundAtMost, HasFailed, PlaceRead, StopsReading, UsesRead}
 use Rattle.tracker_session.specs.Screen.{proved_line, status_line}
 use Rattle.tracker_session.specs.Stages.{WasRead}
-use Rattle.tracker_session.specs.Telling.{LineTold, Told, ToldAtEnd, ToldBehind}
+use Rattle.tracker_session.specs.Telling.{LineTold, Told, ToldAtEnd}
 use Rattle.tracker_session.proofs.Frames.{later_of, later_written}
 use Rattle.tracker_session.proofs.Outcomes.{read_alike, was_read}
 use Rattle.tracker_session.proofs.Stages.{as_written, read_then}

@@ -10,7 +10,7 @@ use Rattle.tracker_session.specs.declared.status.Spot.{Spot}
 use Rattle.tracker_session.specs.declared.status.Status.{Status}
 use Rattle.tracker_session.specs.declared.status.Status.TheVariants.{Done, Usage, Settings, Input, Read, Write, Memory, NotProved}
 use Rattle.tracker_session.specs.Answers.{IsAnswer, WritingBreaksOff}
-use Rattle.tracker_session.specs.Places.{HasFailed, OutputBound, StopsReading, StopsWriting, UsesRead}
+use Rattle.tracker_session.specs.Places.{HasFailed, OutputBound, StopsReading, StopsWriting}
 use Rattle.tracker_session.specs.Stages.{AllOpen, AreUntouched, CameTo, InOrder, IsSettled, IsUntouched, RanTo, RanToUnder, WasRead}
 
 -- The place is as it was.
