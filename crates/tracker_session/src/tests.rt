@@ -61,6 +61,14 @@ const USAGE: &str = "usage: tracker replay, check, scene, exercise or serve\n";
 
 const WORDS: [&str; 5] = ["replay", "a", "b", "c", "d"];
 
+fn words_of(alloc: Global, texts: &[&str]) -> Result<Vec<String>, Fail> {
+    let mut words = Vec::new(alloc);
+    for text in texts {
+        words.push(String::from_str(alloc, text)?)?;
+    }
+    Ok(words)
+}
+
 /// Runs the words over a host with these settings and this input, room for so many octets of output
 /// and of screen, and these calls that fail.
 fn run<R: Threads + Sync>(
@@ -72,10 +80,7 @@ fn run<R: Threads + Sync>(
     room: [usize; 2],
     fails: &[u64],
 ) -> Result<(Status, MemHost), Fail> {
-    let mut words = Vec::new(alloc);
-    for text in texts {
-        words.push(String::from_str(alloc, text)?)?;
-    }
+    let words = words_of(alloc, texts)?;
     let left = vec![in alloc;
         (Place::Settings, Vec::from_slice(alloc, settings)?),
         (Place::Input, Vec::from_slice(alloc, input)?),
@@ -121,6 +126,39 @@ fn two_ticks(rt: HostRuntime) -> Result<(), Fail> {
         "editions 2 admitted 2 unknown 0 early 0 ahead 0 notplots 0 malformed 0 other 0 old 0\n";
     let given: (&[u8], &[u8], &[u64]) = (SETTINGS, &input, &[]);
     compare(&rt, alloc, given, Status::Done, &TWO_EDITIONS, screen)
+}
+
+/// The plot stands east of the radar.
+#[test]
+fn a_plot_off_north(rt: HostRuntime) -> Result<(), Fail> {
+    let mut input = ONE_PLOT;
+    input[25] = 0x40;
+    let mut picture = PICTURE;
+    picture[11] = 0x0E;
+    picture[12] = 0x78;
+    picture[14] = 0x00;
+    picture[15] = 0x00;
+    let screen =
+        "editions 1 admitted 1 unknown 0 early 0 ahead 0 notplots 0 malformed 0 other 0 old 0\n";
+    let given: (&[u8], &[u8], &[u64]) = (SETTINGS, &input, &[]);
+    compare(&rt, rt.alloc(), given, Status::Done, &picture, screen)
+}
+
+/// The header and one tick twice, and an input of no octets.
+#[test]
+fn no_plots(rt: HostRuntime) -> Result<(), Fail> {
+    let alloc = rt.alloc();
+    let mut ticks = Vec::from_slice(alloc, &ONE_PLOT[..9])?;
+    ticks.extend_from_slice(&ONE_PLOT[27..])?;
+    ticks.extend_from_slice(&ONE_PLOT[27..])?;
+    let screen =
+        "editions 1 admitted 0 unknown 0 early 0 ahead 0 notplots 0 malformed 0 other 0 old 1\n";
+    let given: (&[u8], &[u8], &[u64]) = (SETTINGS, &ticks, &[]);
+    compare(&rt, alloc, given, Status::Done, &[], screen)?;
+    let screen =
+        "editions 0 admitted 0 unknown 0 early 0 ahead 0 notplots 0 malformed 0 other 0 old 0\n";
+    let given: (&[u8], &[u8], &[u64]) = (SETTINGS, &[], &[]);
+    compare(&rt, alloc, given, Status::Done, &[], screen)
 }
 
 /// The datagram's block alone has the same picture.
@@ -225,6 +263,19 @@ fn faults_are_told(rt: HostRuntime) -> Result<(), Fail> {
     compare(&rt, rt.alloc(), given, screen, &PICTURE, "write: Screen\n")
 }
 
+/// The text of a fault of the input, of a fault of the settings, and of an input that can't be read.
+#[test]
+fn a_text_that_cant_be_written_leaves_the_status(rt: HostRuntime) -> Result<(), Fail> {
+    let alloc = rt.alloc();
+    let given: (&[u8], &[u8], &[u64]) = (SETTINGS, &ONE_PLOT[..32], &[7]);
+    compare(&rt, alloc, given, Status::Input { offset: 27 }, &[], "")?;
+    let given: (&[u8], &[u8], &[u64]) = (b"system", &ONE_PLOT, &[3]);
+    let status = Status::Settings(SettingsFault::Syntax);
+    compare(&rt, alloc, given, status, &[], "")?;
+    let given: (&[u8], &[u8], &[u64]) = (SETTINGS, &ONE_PLOT, &[4, 5]);
+    compare(&rt, alloc, given, Status::Read(Spot::Input), &[], "")
+}
+
 /// A write takes the front that there is room for, and the next fails.
 #[test]
 fn writing_breaks_off(rt: HostRuntime) -> Result<(), Fail> {
@@ -266,6 +317,24 @@ fn places_are_bound_to_their_words(rt: HostRuntime) -> Result<(), Fail> {
 }
 
 #[test]
+fn words_of_a_replay(rt: HostRuntime) -> Result<(), Fail> {
+    let alloc = rt.alloc();
+    let words = words_of(alloc, &WORDS)?;
+    let command = Command::Replay {
+        settings: String::from_str(alloc, "a")?,
+        input: String::from_str(alloc, "b")?,
+        output: String::from_str(alloc, "c")?,
+        prices: String::from_str(alloc, "d")?,
+        workers: 1,
+    };
+    assert_eq!(rt; parse_words(alloc, &words), Ok(command));
+    let words = words_of(alloc, &["check", "p"])?;
+    let prices = String::from_str(alloc, "p")?;
+    assert_eq!(rt; parse_words(alloc, &words), Ok(Command::Check { prices }));
+    Ok(())
+}
+
+#[test]
 fn other_words_are_refused(rt: HostRuntime) -> Result<(), Fail> {
     let lines: [&[&str]; 10] = [
         &[],
@@ -280,6 +349,12 @@ fn other_words_are_refused(rt: HostRuntime) -> Result<(), Fail> {
         &["check", ""],
     ];
     for line in lines {
+        let words = words_of(rt.alloc(), line)?;
+        assert_eq!(rt;
+            parse_words(rt.alloc(), &words),
+            Err(WordsError::Usage),
+            "at {line:?}"
+        );
         let (answer, host) = run(
             &rt,
             rt.alloc(),
