@@ -1,6 +1,6 @@
 // What the screen says at the end of a command.
 ghost use Rattle.std.specs.Prelude.{◌≡◌, IfOk, string_bytes};
-ghost use Rattle.tracker_session.specs.Screen.{counts_line, no_counts, plots_text, others_text, key_line, proved_line, settings_line, spot_line, status_line};
+ghost use Rattle.tracker_session.specs.Screen.{counts_line, no_counts, plots_text, others_text, proved_line, spot_line, status_line};
 
 use crate::status::{Spot, Status};
 use std::alloc::{AllocError, Global};
