@@ -62,3 +62,7 @@ check_of words (Replay s i o p w) status old new c h prices k = absurd (other_le
 pub never_usage : (command : Command) (status : Status) (old new : HostState) → CommandEnded command status old new → status ≡ Usage → ⊥
 never_usage (Replay s i o p w) status old new h e = subst (λ (x : Status). CameTo (string_bytes s) (string_bytes i) (string_bytes o) x old new) e h.came
 never_usage (Check p) status old new h e = subst (λ (x : Status). CheckCameTo (string_bytes p) x old new) e h.came
+
+-- words of no command are no replay's
+pub no_replay : (words : List (List ℕ)) (status : Status) (old new : HostState) → (AreCommand words → ⊥) → (settings input output : List ℕ) → IsReplay words settings input output → EndOfReplay settings input output status old new
+no_replay words status old new none settings input output k = absurd (none (inl (settings, input, output, k)))

@@ -1,5 +1,5 @@
 use Rattle.tracker_session.specs.Words.{texts}
-use Rattle.tracker_session.proofs.Wording.{is_command, never_usage, replay_of, check_of}
+use Rattle.tracker_session.proofs.Wording.{is_command, never_usage, no_replay, replay_of, check_of}
 use Rattle.tracker_session.proofs.batch.run_batch.Goals as goal
 
 pub returns-in-Ok-clause-usage : goal.returns-in-Ok-clause-usage
@@ -19,3 +19,8 @@ pub returns-in-Ok-clause-check : goal.returns-in-Ok-clause-check
 returns-in-Ok-clause-check g c =
     let state = g.H.Host.state in
     check_of (texts c.args.words.now) c.in-Ok.command c.run_command.result (state c.args.host.now) (state c.run_command.new.host) c.in-Ok.ensures.command c.run_command.ensures
+
+pub returns-in-Err-Usage-clause-replay : goal.returns-in-Err-Usage-clause-replay
+returns-in-Err-Usage-clause-replay g c =
+    let state = g.H.Host.state in
+    no_replay (texts c.args.words.now) c.tell.result (state c.args.host.now) (state c.tell.new.host) (c.in-Err-Usage.ensures.usage cc)
