@@ -1,0 +1,5 @@
+pub mod Drawing
+pub mod Full
+pub mod Least
+pub mod Filing
+pub mod Spelled
