@@ -1,5 +1,5 @@
 -- The price file of a load, record by record.
-use Rattle.std.proofs.Common.{◌≡◌, ◌∙◌, ap, sym, refl, subst, inl, inr, ℕ, ◌+◌, ◌*◌, ◌<◌, ◌≤◌, List, [], ◌∷◌, ◌++◌, length, get_or, take, drop, arith, append_assoc, append-nil, length-append}
+use Rattle.std.proofs.Common.{◌≡◌, ◌∙◌, ap, sym, refl, subst, inl, inr, ℕ, ◌+◌, ◌*◌, ◌<◌, ◌≤◌, Option, List, [], ◌∷◌, ◌++◌, length, get_or, take, drop, arith, append_assoc, append-nil, length-append}
 use Rattle.std.specs.List.{All, flat_map}
 use Rattle.std.specs.Io.KnownBytes.{Appends}
 use Rattle.std.proofs.Math.Seq.{take-add}
@@ -14,15 +14,22 @@ use Rattle.io_traits.proofs.Known.{Appends_nothing, Appends_trans}
 use Rattle.rand_pcg.specs.Lcg.{Lcg}
 use Rattle.price_form.specs.declared.certs.PriceRecord.{PriceRecord}
 use Rattle.price_form.specs.declared.certs.PriceRecord.TheVariants.{Edition, Cert as Certified}
-use Rattle.price_form.specs.Files.{ArePrices, IsRecord, magic}
+use Rattle.price_form.specs.Files.{ArePrices, IsRecord, StandFrom, StandsAt, magic}
 use Rattle.price_form.specs.Spelling.{record_octets, cert_octets}
-use Rattle.price_form.proofs.Filed.{stand_push}
 use Rattle.pairing_load.specs.declared.problems.EdgeCosts.TheVariants.{Random}
 use Rattle.pairing_load.specs.Places.{Got, GotFront}
 use Rattle.pairing_load.specs.Problems.{behind, generator_of}
 use Rattle.pairing_load.specs.Certificates.{IsLoadRecord}
 use Rattle.pairing_load.specs.PriceFiles.{FileWritten, FrontWritten, IsLoadFile, RecordMade, generator_at}
 use Rattle.pairing_load.proofs.Drawing.{behind_behind, behind_none}
+
+stand_push : (p : ℕ) (rs : List PriceRecord) (r : PriceRecord) → StandFrom p rs → StandsAt (p + length (flat_map record_octets rs)) r → StandFrom p (rs ++ r ∷ [])
+stand_push p [] r h k =
+    let e : p + 0 ≡ p = omega arith in
+    (subst (λ (q : ℕ). StandsAt q r) e k, tt)
+stand_push p (s ∷ rs) r h k =
+    let e : p + length (record_octets s ++ flat_map record_octets rs) ≡ p + length (record_octets s) + length (flat_map record_octets rs) = omega (arith, length-append (record_octets s) (flat_map record_octets rs)) in
+    (h.0, stand_push (p + length (record_octets s)) rs r h.1 (subst (λ (q : ℕ). StandsAt q r) e k))
 
 -- what the file begins with
 abbrev pub head : List ℕ
@@ -112,7 +119,7 @@ pub front_none : (seed count : ℕ) (old new : HostState) → GotFront places.Ou
 front_none seed count old new got = record { made = 0; within = omega arith; bytes = head; file = file_none seed; got = got }
 
 pub front_nothing : (seed count : ℕ) (old new : HostState) → new.got places.Output ≡ old.got places.Output → FrontWritten seed count old new
-front_nothing seed count old new same = front_none seed count old new (0, omega arith, subst (λ o. Appends (old.got places.Output) o []) (sym same) (Appends_nothing (old.got places.Output)))
+front_nothing seed count old new same = front_none seed count old new (0, omega arith, subst (λ (o : Option (List ℕ)). Appends (old.got places.Output) o []) (sym same) (Appends_nothing (old.got places.Output)))
 
 pub front_here : (seed n count : ℕ) (old new : HostState) → n ≤ count → FileWritten seed n old new → FrontWritten seed count old new
 front_here seed n count old new le h = record { made = n; within = le; bytes = h.bytes; file = h.file; got = got_front places.Output old new h.bytes h.got }

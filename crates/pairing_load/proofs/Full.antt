@@ -50,3 +50,8 @@ pub edges_more : (costs : EdgeCosts) (size : ℕ) (g : Lcg) (n : ℕ) {now after
 edges_more costs size g n {now} {after} {generator} {cost} e drawn is push =
     let c : cost ≡ next_cost costs (behind costs n g) = is ∙ ap (next_cost costs) drawn in
     push ∙ (λ j. e j ++ (n / size, n % size, c j) ∷ []) ∙ sym (map-range_with_len_more (full_edge costs size g) 0 n n (omega arith))
+
+-- a problem with just these edges
+pub problem_made : (costs : EdgeCosts) (size : ℕ) (g : Lcg) → 1 ≤ size → {edges : List Edge} → edges ≡ map (full_edge costs size g) (range_with_len 0 (size * size)) → IsProblem (record { plots = size; tracks = size; edges = edges })
+unfolding full_problem
+problem_made costs size g some {edges} e = subst (λ (es : List Edge). IsProblem (record { plots = size; tracks = size; edges = es })) (sym e) (full_is costs size g some)

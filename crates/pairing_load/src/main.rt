@@ -17,13 +17,13 @@ mod words;
 use io_traits::FileHost;
 use run::run_load;
 use status::Status;
-use std::alloc::Global;
+use std::alloc::{AllocError, Global};
 use std::process::ExitCode;
 use std::rt::Env;
 use std::{env, io};
 
 // The words behind the program's name. One that isn't UTF-8 is in no load, as no words are none.
-fn words<R: Env + Alloc<A = Global>>(rt: &R) -> Result<Vec<String>, Status> {
+fn words_of<R: Env + Alloc<A = Global>>(rt: &R) -> Result<Vec<String>, Status> {
     match env::args(rt) {
         Ok(arguments) => match arguments.skip(1).collect(rt.alloc()) {
             Ok(words) => Ok(words),
@@ -34,10 +34,18 @@ fn words<R: Env + Alloc<A = Global>>(rt: &R) -> Result<Vec<String>, Status> {
     }
 }
 
+// Carries out the words over the real files.
+fn run_words(rt: &HostRuntime) -> Result<Status, AllocError> {
+    match words_of(rt) {
+        Ok(words) => Ok(run_load(rt.alloc(), &words, &mut FileHost::new(rt.clone()?))),
+        Err(status) => Ok(status),
+    }
+}
+
 fn main(rt: HostRuntime) -> ExitCode {
-    let status = match (words(&rt), rt.clone()) {
-        (Ok(words), Ok(handle)) => run_load(rt.alloc(), &words, &mut FileHost::new(handle)),
-        _ => Status::Memory,
+    let status = match run_words(&rt) {
+        Ok(status) => status,
+        Err(_) => Status::Memory,
     };
     // Where the standard error can't be written the status is all that is told.
     let _ = eprint!(rt; "{}", status.line());

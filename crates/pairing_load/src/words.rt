@@ -8,6 +8,9 @@ ghost use Rattle.pairing_load.specs.declared.words.Prices.{Prices};
 
 use crate::problems::{EdgeCosts, MAX_SIZE};
 
+/// The most problems or certificates of a load.
+const MAX_COUNT: u64 = 4_294_967_295;
+
 /// Assignment problems that are to be solved.
 #[derive(Clone, Copy, Debug, PartialEq, Eq)]
 pub struct Pairings {
@@ -40,6 +43,7 @@ fn is_plain(octets: &[u8]) -> bool
 /// The number that a word spells: decimal digits, without a sign and without a leading zero.
 fn read_number(word: &str) -> Option<u64>
     ensures spelled { IfSome result (λ n. word.now ≡ decimal n) }
+    ensures fits { IfSome result (λ n. n < 2 ^ 64) }
     ensures refused { IsNone result → (n : ℕ) → n < 2 ^ 64 → word.now ≢ decimal n }
 {
     if is_plain(word.as_bytes()) {
@@ -52,9 +56,15 @@ fn read_number(word: &str) -> Option<u64>
 /// The number that a word spells, below 2^32.
 fn read_count(word: &str) -> Option<u32>
     ensures spelled { IfSome result (λ n. word.now ≡ decimal n) }
+    ensures fits { IfSome result (λ n. n < 2 ^ 32) }
     ensures refused { IsNone result → (n : ℕ) → n < 2 ^ 32 → word.now ≢ decimal n }
 {
-    u32::try_from(read_number(word)?).ok()
+    let number = read_number(word)?;
+    if number <= MAX_COUNT {
+        Some(number as u32)
+    } else {
+        None
+    }
 }
 
 /// The number of plots that a word spells.
