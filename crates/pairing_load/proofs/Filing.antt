@@ -132,3 +132,20 @@ front_broken seed n count generator octets old mid new lt h made got = record {
   file = file_more seed n h.written.bytes octets h.written.file (made_at n h.drawn made);
   got = front_more places.Output old mid new h.written.bytes octets h.written.got got;
 }
+
+-- what Output got before was the same
+pub front_moved : (seed count : ℕ) (old mid new : HostState) → mid.got places.Output ≡ old.got places.Output → FrontWritten seed count mid new → FrontWritten seed count old new
+front_moved seed count old mid new e h = record {
+  made = h.made;
+  within = h.within;
+  bytes = h.bytes;
+  file = h.file;
+  got = (h.got.0, h.got.1, subst (λ (o : Option (List ℕ)). Appends o (new.got places.Output) (take h.got.0 h.bytes)) e h.got.2);
+}
+
+pub written_moved : (seed count : ℕ) (old mid new : HostState) → mid.got places.Output ≡ old.got places.Output → FileWritten seed count mid new → FileWritten seed count old new
+written_moved seed count old mid new e h = record {
+  bytes = h.bytes;
+  file = h.file;
+  got = subst (λ (o : Option (List ℕ)). Appends o (new.got places.Output) h.bytes) e h.got;
+}

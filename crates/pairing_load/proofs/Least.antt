@@ -1,5 +1,5 @@
 -- Least costs, and their sums.
-use Rattle.std.proofs.Common.{◌≡◌, ◌∙◌, ap, sym, refl, subst, inl, inr, ℕ, ◌+◌, ◌*◌, ◌<◌, ◌≤◌, List, [], ◌∷◌, ◌++◌, Option, None, length, get_or, map, sum, arith, length-append}
+use Rattle.std.proofs.Common.{◌≡◌, ◌∙◌, ap, sym, refl, subst, inl, inr, ℕ, ◌+◌, ◌*◌, ◌<◌, ◌≤◌, List, [], ◌∷◌, ◌++◌, Option, None, length, get_or, map, sum, arith, length-append, add-mul, one-mul}
 use Rattle.std.proofs.lemmas.Bool.{cases_lt}
 use Rattle.std.proofs.lemmas.List.{get_or_append_left, get_or_push}
 use Rattle.std.proofs.lemmas.List.Sums.{sum_by_push}
@@ -8,7 +8,8 @@ use Rattle.rand_pcg.specs.Lcg.{Lcg}
 use Rattle.assignment_dual.specs.Pairings.{Row, AllGate, Once, IsPairing, IsLeast, cost}
 use Rattle.assignment_dual.specs.Problems.{Problem, row_of, rows_of}
 use Rattle.pairing_load.specs.declared.problems.EdgeCosts.{EdgeCosts}
-use Rattle.pairing_load.specs.Problems.{full_problem, problem}
+use Rattle.pairing_load.specs.Problems.{behind, full_problem, generator_of, problem}
+use Rattle.pairing_load.proofs.Drawing.{behind_behind}
 use Rattle.pairing_load.specs.Totals.{IsLeastCost, IsTotal}
 
 -- no plot gets a track
@@ -61,3 +62,17 @@ total_more costs size seed n total c h least =
       ];
       total_is = ap (λ (t : ℕ). t + c) h.total_is ∙ sym (sum_by_push (λ (x : ℕ). x) h.each c);
     }
+
+pub least_of : (costs : EdgeCosts) (size : ℕ) (g : Lcg) (p : Problem) (xs : List (Option ℕ)) (c : ℕ) → p ≡ full_problem costs size g → IsLeast (rows_of p) xs → c ≡ cost (rows_of p) xs → IsLeastCost (full_problem costs size g) c
+least_of costs size g p xs c e least worth = subst (λ (q : Problem). IsLeastCost q c) e (record { pairing = xs; least = least; worth = worth })
+
+-- the generator behind one problem more
+next_row : (n s : ℕ) → n * s + s ≡ (n + 1) * s
+next_row n s = sym (add-mul n 1 s ∙ ap (λ (t : ℕ). n * s + t) (one-mul s))
+
+pub behind_more : (costs : EdgeCosts) (size seed n : ℕ) {generator generator' : Lcg} → generator ≡ behind costs (n * (size * size)) (generator_of seed) → generator' ≡ behind costs (size * size) generator → generator' ≡ behind costs ((n + 1) * (size * size)) (generator_of seed)
+behind_more costs size seed n {generator} {generator'} h e =
+    e ∙ ap (behind costs (size * size)) h ∙ behind_behind costs (n * (size * size)) (size * size) (generator_of seed) ∙ ap (λ (k : ℕ). behind costs k (generator_of seed)) (next_row n (size * size))
+
+pub least_at : (costs : EdgeCosts) (size seed n c : ℕ) {generator : Lcg} → generator ≡ behind costs (n * (size * size)) (generator_of seed) → IsLeastCost (full_problem costs size generator) c → IsLeastCost (problem costs size seed n) c
+least_at costs size seed n c {generator} e h = subst (λ (g : Lcg). IsLeastCost (full_problem costs size g) c) e h

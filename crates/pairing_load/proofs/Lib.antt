@@ -3,3 +3,5 @@ pub mod Full
 pub mod Least
 pub mod Filing
 pub mod Spelled
+pub mod Certs
+pub mod Loads

@@ -15,7 +15,7 @@ own = numerals_by_value (AllDigits 10) tells_digits
 -- what a plain word is read as, spells it
 pub spells : {E : Type 0} (word : List ℕ) (n : ℕ) (r : Result ℕ E) → IsPlain word → ParsesUnsigned 64 10 word r → r ≡ Ok n → word ≡ decimal n
 spells {E} word n (Ok m) plain h e =
-    let k : (AllDigits 10 word × (0 < length word) × (digits_value 10 word < 2 ^ 64)) × (m ≡ digits_value 10 word) = parse_plain own 64 word (Ok m) h plain.unsigned in
+    let k : (AllDigits 10 word × (0 < length word) × (digits_value 10 word < 2 ^ 64)) × (m ≡ digits_value 10 word) = parse_plain own {E = E} 64 word (Ok m) h plain.unsigned in
     let same : m ≡ n = (cc) in
     sym (decimal-digits_value own word k.0.0 k.0.1 plain.short k.0.2) ∙ ap decimal (sym k.1 ∙ same)
 spells {E} word n (Err f) plain h e = cc

@@ -1,8 +1,7 @@
 // The certificates of a load.
-ghost use Rattle.std.specs.Prelude.{◌≡◌, IfOk, OnOk};
-ghost use Rattle.assignment_dual.specs.Problems.{IsProblem};
-ghost use Rattle.price_form.specs.Certificates.{IsCert};
-ghost use Rattle.price_form.specs.Files.{IsInRange};
+ghost use Rattle.std.specs.Prelude.{◌≡◌, ◌<◌, FitsSigned, IfOk, IfSome, OnOk};
+ghost use Rattle.std.specs.Int.{w64};
+ghost use Rattle.std.specs.List.{All};
 ghost use Rattle.pairing_load.specs.Certificates.{IsLoadCert};
 ghost use Rattle.pairing_load.specs.Problems.{behind};
 
@@ -20,9 +19,9 @@ const SIZE: u32 = 3;
 /// its plots are numbered on from certificate to certificate.
 pub fn next_cert(alloc: Global, number: u32, generator: &mut Pcg32) -> Result<Cert, NoMemory>
     ensures is { IfOk result (IsLoadCert number generator.old) }
-    ensures formed { IfOk result (λ c. IsCert c) }
-    ensures problem { IfOk result (λ c. IsProblem c.costs) }
-    ensures fits { IfOk result (λ c. IsInRange c) }
+    ensures named { IfOk result (λ c. All (λ x. IfSome x (λ t. t < c.costs.tracks)) c.pairing) }
+    ensures u_fits { IfOk result (λ c. All (FitsSigned w64) c.u) }
+    ensures v_fits { IfOk result (λ c. All (FitsSigned w64) c.v) }
     ensures drawn { OnOk result (generator.new ≡ behind EdgeCosts.Random 9 generator.old) }
 {
     let costs = next_problem(alloc, EdgeCosts::Random, SIZE, generator)?;

@@ -29,6 +29,7 @@ fn next_least_cost(
 }
 
 /// The sum of the least costs of all problems of a load.
+#[tactic(auto, using(crate::proofs::Least::total_more, crate::proofs::Least::behind_more, crate::proofs::Least::least_at))]
 pub fn total_cost(alloc: Global, load: Pairings) -> Result<u64, NoMemory>
     requires some { 1 ≤ load.size }
     requires few { load.size ≤ MAX_SIZE }
@@ -36,7 +37,7 @@ pub fn total_cost(alloc: Global, load: Pairings) -> Result<u64, NoMemory>
 {
     let mut generator = generator_of(load.seed);
     let mut total: u64 = 0;
-    for _number in 0..load.count {
+    for number in 0..load.count {
         total += next_least_cost(alloc, load.costs, load.size, &mut generator)?;
     }
     Ok(total)

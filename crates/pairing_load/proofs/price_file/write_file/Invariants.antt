@@ -10,7 +10,7 @@ invariant-loop-number g l =
     let state = g.H.Host.state in
     record {
       bound : IsBoundFor Way.Write (state l.host) Place.Output;
-      progress : Progress l.load.seed l.number l.generator (state l.fn.host) (state l.host);
+      progress : Progress l.fn.load.seed l.number l.generator (state l.fn.host) (state l.host);
       faults : (state l.host).faults Place.Output ≡ (state l.fn.host).faults Place.Output;
       others : WritesOnly Place.Output (state l.fn.host) (state l.host);
     }
