@@ -45,9 +45,12 @@ plain_of {b} {octets} {word} h e t = subst IsPlain e (h.0 t)
 pub told_plain : {b : Bool} {octets word : List ℕ} → IsTrue b ↔ IsPlain octets → octets ≡ word → IsPlain word → b ≡ true
 told_plain {b} {octets} {word} h e k = h.1 (subst IsPlain (sym e) k)
 
+same_answer : (E : Type 0) (m : ℕ) → let r : Result ℕ E = Ok m in r ≡ r
+same_answer E m = refl
+
 -- what the word is read as
 pub number_spelled : {E : Type 0} (word : List ℕ) (r : Result ℕ E) (o : Option ℕ) → IsPlain word → ParsesUnsigned 64 10 word r → o ≡ result_ok r → IfSome o (λ n. word ≡ decimal n)
-number_spelled {E} word (Ok m) o plain h e = subst (λ (p : Option ℕ). IfSome p (λ n. word ≡ decimal n)) (sym e) (spells word m (Ok m) plain h refl)
+number_spelled {E} word (Ok m) o plain h e = subst (λ (p : Option ℕ). IfSome p (λ n. word ≡ decimal n)) (sym e) (spells {E = E} word m (Ok m) plain h (same_answer E m))
 number_spelled {E} word (Err f) o plain h e = subst (λ (p : Option ℕ). IfSome p (λ n. word ≡ decimal n)) (sym e) tt
 
 pub number_refused : {E : Type 0} (word : List ℕ) (r : Result ℕ E) (o : Option ℕ) → ParsesUnsigned 64 10 word r → o ≡ result_ok r → IsNone o → (n : ℕ) → n < 2 ^ 64 → word ≢ decimal n

@@ -1,4 +1,5 @@
-use Rattle.std.proofs.Common.{◌≡◌, ◌∙◌, sym, subst, ℕ, arith}
+use Rattle.std.proofs.Common.{◌≡◌, ◌∙◌, ◌*◌, ap, sym, subst, ℕ, arith, zero-mul}
+use Rattle.pairing_load.specs.Problems.{behind, generator_of}
 use Rattle.pairing_load.specs.Totals.{IsTotal}
 use Rattle.pairing_load.proofs.Drawing.{behind_none}
 use Rattle.pairing_load.proofs.Least.{total_none}
@@ -6,7 +7,7 @@ use Rattle.pairing_load.proofs.solving.total_cost.Goals as goal
 
 pub loop-number-init : goal.loop-number-init
 loop-number-init c = record {
-  drawn = c.generator_of-generator.ensures ∙ sym (behind_none _ _);
+  drawn = c.generator_of-generator.ensures ∙ sym (ap (λ (k : ℕ). behind c.args.load.costs k (generator_of c.args.load.seed)) (zero-mul (c.args.load.size * c.args.load.size)) ∙ behind_none c.args.load.costs (generator_of c.args.load.seed));
   sum = total_none _ _ _;
   small = omega arith;
 }
