@@ -1,16 +1,15 @@
 -- The arrivals of a legal log are the numbers from 0 on.
-use Rattle.std.proofs.Common.{◌≡◌, ◌∙◌, ap, sym, subst, refl, ℕ, zero, suc, ◌+◌, ◌<◌, ◌≤◌, ◌∷◌, ◌++◌, length, map, get_or, arith, append-nil}
+use Rattle.std.proofs.Common.{◌≡◌, ◌∙◌, ap, sym, refl, ℕ, zero, suc, ◌+◌, ◌∷◌, ◌++◌, length, map, arith, append-nil}
 use Rattle.std.specs.List.{range_with_len}
-use Rattle.std.proofs.lemmas.List.{map-append, take_all}
-use Rattle.std.proofs.lemmas.Option.{slice_get-get_or}
-use Rattle.std.proofs.Math.Seq.{take-suc}
+use Rattle.std.proofs.lemmas.List.{map-append}
 use Rattle.admission_log.specs.declared.settings.Settings.{Settings}
 use Rattle.admission_log.specs.declared.events.Admitted.{Admitted}
 use Rattle.admission_log.specs.declared.events.Event.{Event}
 use Rattle.admission_log.specs.declared.events.Event.TheVariants.{Deliver, Tick, Publish}
-use Rattle.admission_log.specs.Histories.{History, appended, first, admitted_in, admitted_of, next_of}
+use Rattle.admission_log.specs.Histories.{History, appended, admitted_in, admitted_of, next_of}
 use Rattle.admission_log.specs.Legality.{IsLegal, IsLegalEvent}
 use Rattle.admission_log.proofs.Growing.{admitted-appended, next-grown}
+use Rattle.admission_log.proofs.Fronts.{by_events}
 
 range_join : (a n m : ℕ) → range_with_len a n ++ range_with_len (a + n) m ≡ range_with_len a (n + m)
 range_join a zero m =
@@ -45,14 +44,5 @@ counts_more settings before e fits h =
     ∙ range_join 0 k m
     ∙ ap (range_with_len 0) (sym (next-grown before e))
 
-counts_first : (settings : Settings) (log : History) → IsLegal settings log → (n : ℕ) → n ≤ length log.events → Counts (first n log)
-counts_first settings log legal zero within = refl
-counts_first settings log legal (suc n) within =
-    let lt : n < length log.events = omega arith in
-    let e = get_or log.events n (Tick 0) in
-    let fits = legal.each n e (slice_get-get_or log.events n (Tick 0) lt) in
-    subst (λ events. Counts (record { start = log.start; events = events })) (sym (take-suc log.events n (Tick 0) lt)) (counts_more settings (first n log) e fits (counts_first settings log legal n (omega arith)))
-
 pub arrivals_count : (settings : Settings) (log : History) → IsLegal settings log → map (λ a. a.arrival) (admitted_of log) ≡ range_with_len 0 (next_of log)
-arrivals_count settings log legal =
-    subst (λ events. Counts (record { start = log.start; events = events })) (take_all (length log.events) log.events (omega arith)) (counts_first settings log legal (length log.events) (omega arith))
+arrivals_count settings log legal = by_events settings log legal Counts refl (counts_more settings)

@@ -5,4 +5,7 @@ pub mod Contents
 pub mod Reading
 pub mod Sound
 pub mod Rising
+pub mod Fronts
 pub mod Arrivals
+pub mod Taken
+pub mod Keys

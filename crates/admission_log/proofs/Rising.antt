@@ -16,11 +16,11 @@ use Rattle.plot_geometry.proofs.Order.{plot_cmp_total, plot_cmp_exact}
 use Rattle.admission_log.specs.Plots.{put, in_rising_key}
 
 -- none behind is below x
-abbrev AreNotBelow : PlanePlot → List PlanePlot → Type 0
+abbrev pub AreNotBelow : PlanePlot → List PlanePlot → Type 0
 AreNotBelow x ys = AllByRecursion (λ y. is_lt (plot_cmp y x) ≡ false) ys
 
 -- none is below an earlier one
-abbrev Rises : List PlanePlot → Type 0
+abbrev pub Rises : List PlanePlot → Type 0
 Rises [] = Unit {0}
 Rises (x ∷ xs) = AreNotBelow x xs × Rises xs
 
@@ -68,7 +68,7 @@ put_rises p (q ∷ qs) h =
     ] in
     at (is_lt (plot_cmp q p)) refl
 
-all_rise : (ps : List PlanePlot) → Rises (in_rising_key ps)
+pub all_rise : (ps : List PlanePlot) → Rises (in_rising_key ps)
 all_rise [] = tt
 all_rise (p ∷ ps) = put_rises p (in_rising_key ps) (all_rise ps)
 

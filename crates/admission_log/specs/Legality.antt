@@ -24,6 +24,12 @@ pub record IsLegalPlot (settings : Settings) (last : ℕ) (a : Admitted) : Type 
   pub not_late : low_at settings.window last ≤ slot_of a.time
   pub not_ahead : a.time ≤ high_at last
 
+-- it was legal after some tick that isn't later than this one
+pub record WasOpen (settings : Settings) (last : ℕ) (a : Admitted) : Type 0 where
+  pub tick : ℕ
+  pub earlier : tick ≤ last
+  pub legal : IsLegalPlot settings tick a
+
 -- a plot that wasn't taken was late, or ahead
 abbrev pub IsLegalOutcome : Settings → ℕ → Outcome → Type 0
 IsLegalOutcome settings last (outcomes.BeforeHorizon slot low) = slot < low_at settings.window last

@@ -1,5 +1,6 @@
 // What becomes of one message.
 ghost use Rattle.std.specs.Prelude.{◌≡◌, ◌<◌, ◌^◌, pos, ◌-ℤ◌};
+ghost use Rattle.trk_base.specs.Ranges.{IsTimeOfDay};
 ghost use Rattle.plot_geometry.specs.Plane.{not_below_zero};
 ghost use Rattle.admission_log.specs.Outcomes.{judged, outcome_of, time_bias_of, time_at, timed, counted_radar};
 
@@ -55,7 +56,7 @@ pub(crate) fn admission(
 // The time of a plot of a radar.
 fn time_of(settings: &Settings, last: u64, radar: u8, tod: u32) -> u64
     requires in_range { last < 2 ^ 40 }
-    requires in_day { tod < 11059200 }
+    requires in_day { IsTimeOfDay tod }
     ensures { result ≡ time_at settings.now last radar tod }
 {
     freed(unwrap_tod(tod, last), time_bias(settings, radar))

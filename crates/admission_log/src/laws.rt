@@ -1,13 +1,14 @@
 // Laws of the definitions.
-ghost use Rattle.std.specs.Prelude.{◌≡◌, List, map};
+ghost use Rattle.std.specs.Prelude.{◌≡◌, ◌<◌, ◌≤◌, ◌^◌, ℕ, List, map, length, All, IsSomeAnd};
 ghost use Rattle.std.specs.List.{range_with_len};
-ghost use Rattle.std.specs.List.Sorted.{IsPermutation, IsSorted};
+ghost use Rattle.std.specs.List.Sorted.{IsPermutation, IsSorted, IsStrictlySortedBy};
+ghost use Rattle.trk_base.specs.Keys.{key_cmp};
 ghost use Rattle.plot_geometry.specs.declared.plots.PlanePlot.{PlanePlot};
 ghost use Rattle.plot_geometry.specs.PlotOrder.{plot_cmp};
 ghost use Rattle.admission_log.specs.declared.settings.Settings.{Settings};
-ghost use Rattle.admission_log.specs.Histories.{History, admitted_of, next_of};
-ghost use Rattle.admission_log.specs.Legality.{IsLegal};
-ghost use Rattle.admission_log.specs.Plots.{in_rising_key};
+ghost use Rattle.admission_log.specs.Histories.{History, first, last_of, admitted_of, next_of, high_at};
+ghost use Rattle.admission_log.specs.Legality.{IsLegal, WasOpen};
+ghost use Rattle.admission_log.specs.Plots.{in_rising_key, key_of, plane_of, plots_of};
 
 /// Plots have exactly one order in rising key: whoever sorts them gets it.
 pub fn one_rising_order()
@@ -19,4 +20,24 @@ pub fn one_rising_order()
 /// The arrivals of a legal log are the numbers from 0 on, in order.
 pub fn arrivals_count()
     ensures { (settings : Settings) (log : History) → IsLegal settings log → map (λ a. a.arrival) (admitted_of log) ≡ range_with_len 0 (next_of log) }
+{}
+
+/// A legal log was legal at each earlier moment, and its last tick has never fallen and is below 2^40.
+pub fn legal_fronts()
+    ensures legal { (settings : Settings) (log : History) (n : ℕ) → IsLegal settings log → IsLegal settings (first n log) }
+    ensures rises { (log : History) (n : ℕ) → last_of (first n log) ≤ last_of log }
+    ensures in_time { (settings : Settings) (log : History) → IsLegal settings log → log.start < 2 ^ 40 → last_of log < 2 ^ 40 }
+{}
+
+/// Each plot that a legal log has admitted was open at some moment, is of a radar of the settings, isn't too far ahead, and has its place and its key in the plane.
+pub fn admitted_plots()
+    ensures was_open { (settings : Settings) (log : History) → IsLegal settings log → All (WasOpen settings (last_of log)) (admitted_of log) }
+    ensures radar { (settings : Settings) (log : History) → IsLegal settings log → All (λ a. a.radar < length settings.radars) (admitted_of log) }
+    ensures not_ahead { (settings : Settings) (log : History) → IsLegal settings log → All (λ a. a.time ≤ high_at (last_of log)) (admitted_of log) }
+    ensures plane { (settings : Settings) (log : History) → IsLegal settings log → All (λ a. IsSomeAnd (plane_of settings a) (λ plot. plot.key ≡ key_of a)) (admitted_of log) }
+{}
+
+/// The keys of a legal log's plots strictly rise, so no two are the same.
+pub fn keys_rise()
+    ensures { (settings : Settings) (log : History) → IsLegal settings log → IsStrictlySortedBy key_cmp (map (λ plot. plot.key) (plots_of settings log)) }
 {}

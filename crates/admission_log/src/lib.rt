@@ -13,6 +13,6 @@ mod tests;
 pub use delivery::deliver;
 pub use events::{AdmitError, Admitted, Event, Outcome, Receipt, TickError};
 pub use judging::{MOST_AHEAD, judge};
-pub use laws::{arrivals_count, one_rising_order};
+pub use laws::{admitted_plots, arrivals_count, keys_rise, legal_fronts, one_rising_order};
 pub use log::{LIMIT, Log};
 pub use settings::{MAX_RADARS, Settings, radar_of};

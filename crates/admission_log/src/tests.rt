@@ -1,6 +1,7 @@
 ghost use Rattle.std.specs.Prelude.{◌≤◌, length, unsigned_abs};
 
 use crate::*;
+use asterix_frame::{Malformed, cause};
 use cat048_in::NotPlot;
 use plot_geometry::RadarSettings;
 use std::alloc::Global;
@@ -56,16 +57,6 @@ fn service(sic: u8, kind: u8) -> [u8; 10] {
     [0x22, 0, 10, 0xE0, 1, sic, kind, 0x46, 0x50, 0]
 }
 
-// The offset and the cause of a datagram's fault, if it is refused for one.
-fn fault_of(log: &mut Log, settings: &Settings, datagram: &[u8]) -> Option<(usize, u8)>
-    requires { length datagram.now ≤ 65535 }
-{
-    match log.admit(settings, 0, datagram) {
-        Err(AdmitError::Malformed(fault)) => Some((fault.offset, fault.cause)),
-        _ => None,
-    }
-}
-
 // What becomes of a datagram's one message.
 fn outcome_of(log: &mut Log, settings: &Settings, datagram: &[u8]) -> Option<Outcome>
     requires { length datagram.now ≤ 65535 }
@@ -79,55 +70,39 @@ fn outcome_of(log: &mut Log, settings: &Settings, datagram: &[u8]) -> Option<Out
     }
 }
 
+// A datagram, and the offset and the cause of its first fault.
+const FAULTS: [(&[u8], usize, u8); 10] = [
+    (&[0x30, 0], 0, cause::BLOCK_SHORT),
+    (&[0x30, 0, 2], 1, cause::BLOCK_LENGTH),
+    (&[0x30, 0, 4, 0x81], 4, cause::FSPEC_END),
+    (&[0x30, 0, 8, 1, 1, 1, 1, 0x80], 7, cause::SPARE_FRN),
+    (&[0x30, 0, 5, 0x80, 1], 4, cause::ITEM_END),
+    (&[0x30, 0, 8, 1, 1, 1, 2, 0], 7, cause::LENGTH_ZERO),
+    (&[0x30, 0, 6, 2, 1, 0x80], 5, cause::UNKNOWN_SUBFIELD),
+    (&[0x30, 0, 7, 0x40, 0xA8, 0xC0, 0], 4, cause::TIME_RANGE),
+    // a fault of the records, before one of the next head
+    (&[0x30, 0, 5, 0x80, 1, 0x30, 0, 2], 4, cause::ITEM_END),
+    // a good record before a bad one is refused with it
+    (
+        &[
+            0x30, 0, 16, 0xF0, 1, 1, 0x46, 0x50, 10, 0xA0, 1, 0, 0, 0, 0x80, 1,
+        ],
+        15,
+        cause::ITEM_END,
+    ),
+];
+
 #[test]
 fn tells_the_first_fault(rt: HostRuntime) -> Result<(), Fail> {
     let alloc = rt.alloc();
     let settings = settings_with(alloc, 0)?;
     let mut log = Log::new(alloc, START);
-    assert_eq!(rt; fault_of(&mut log, &settings, &[0x30, 0]), Some((0, 1)));
-    assert_eq!(rt; fault_of(&mut log, &settings, &[0x30, 0, 2]), Some((1, 2)));
-    assert_eq!(rt;
-        fault_of(&mut log, &settings, &[0x30, 0, 4, 0x81]),
-        Some((4, 3))
-    );
-    assert_eq!(rt;
-        fault_of(&mut log, &settings, &[0x30, 0, 8, 1, 1, 1, 1, 0x80]),
-        Some((7, 4))
-    );
-    assert_eq!(rt;
-        fault_of(&mut log, &settings, &[0x30, 0, 5, 0x80, 1]),
-        Some((4, 5))
-    );
-    assert_eq!(rt;
-        fault_of(&mut log, &settings, &[0x30, 0, 8, 1, 1, 1, 2, 0]),
-        Some((7, 6))
-    );
-    assert_eq!(rt;
-        fault_of(&mut log, &settings, &[0x30, 0, 6, 2, 1, 0x80]),
-        Some((5, 7))
-    );
-    assert_eq!(rt;
-        fault_of(&mut log, &settings, &[0x30, 0, 7, 0x40, 0xA8, 0xC0, 0]),
-        Some((4, 8))
-    );
-
-    // A fault of the records comes before one of the next head.
-    assert_eq!(rt;
-        fault_of(&mut log, &settings, &[0x30, 0, 5, 0x80, 1, 0x30, 0, 2]),
-        Some((4, 5))
-    );
-
-    // A record that is bad takes a good one before it along.
-    assert_eq!(rt;
-        fault_of(
-            &mut log,
-            &settings,
-            &[
-                0x30, 0, 16, 0xF0, 1, 1, 0x46, 0x50, 10, 0xA0, 1, 0, 0, 0, 0x80, 1
-            ]
-        ),
-        Some((15, 5))
-    );
+    for (datagram, offset, cause) in FAULTS {
+        assert!(rt; datagram.len() <= 65_535);
+        let got = log.admit(&settings, 0, datagram).err();
+        let fault = Malformed { offset, cause };
+        assert_eq!(rt; got, Some(AdmitError::Malformed(fault)));
+    }
     assert!(rt; log.events().is_empty());
     Ok(())
 }

@@ -1,5 +1,5 @@
 -- The candidates of a plot are collected and tried.
-use Rattle.std.proofs.Common.{◌≡◌, ◌≢◌, ◌≤◌, ◌<◌, inl, inr, ℕ, zero, suc, ◌+◌, ◌-◌, ◌*◌, length, get_or, get_or-set_other, set, sum, Some, None, List, [], ◌∷◌, ◌++◌, Bool, true, false, arith, refl, sym, ◌∙◌, ap, subst}
+use Rattle.std.proofs.Common.{◌≡◌, ◌≢◌, ◌≤◌, ◌<◌, inl, inr, ℕ, zero, suc, ◌+◌, ◌-◌, length, get_or, get_or-set_other, set, sum, Some, None, List, [], ◌∷◌, ◌++◌, Bool, true, false, arith, refl, sym, ◌∙◌, ap, subst}
 use Rattle.std.proofs.lemmas.List.{get_or_append_left, length_push}
 use Rattle.std.proofs.Math.Seq.{get_or-append_seam}
 use Rattle.std.proofs.lemmas.Bool.{cases_lt}
@@ -10,7 +10,6 @@ use Rattle.assignment_dual.specs.Vertices.{no_arc, to_of, cost_at, IsArc, IsGrap
 use Rattle.assignment_dual.specs.Rests.{ShowsRest}
 use Rattle.assignment_dual.specs.Choices.{IsCandidate, AreCandidates, Fails, IsFixedBy}
 use Rattle.assignment_dual.proofs.Columns.{arc_read}
-use Rattle.assignment_dual.proofs.Duality.{sum-cons}
 use Rattle.assignment_dual.proofs.Choices.{Fixing, fixing, chosen_track, chosen_none}
 
 -- the arcs before k have been looked at
@@ -128,10 +127,6 @@ tried {g} {n} {qs} {gone} {p} {tight} gr ca pp le i r il e =
       here = ap (λ (o : ℕ). get_or gone o false) t ∙ cd.here;
     }
 
-pub sum_small : (qs : List ℕ) → ((v : ℕ) → get_or qs v 0 ≤ MISS) → sum qs ≤ MISS * length qs
-sum_small [] h = omega arith
-sum_small (q ∷ qs) h = omega (arith, sum-cons q qs, h 0, sum_small qs (λ v. h (suc v)))
-
 -- a track is none of the plots
 pub track_here : {g : Graph} {n : ℕ} {gone : List Bool} {r : Arc} {p k : ℕ} → Tried g n gone r k → p < g.plots → get_or (set gone p true) r.to false ≡ false
 track_here {g} {n} {gone} {r} {p} {k} t h = get_or-set_other gone p r.to true false (λ e. omega (arith, e, t.low, h)) ∙ t.here
@@ -162,3 +157,20 @@ pub others_track : {g : Graph} {n p : ℕ} {qs ms : List ℕ} {first gone new : 
     → (v : ℕ) → v < g.plots → v ≢ p → get_or new v false ≡ get_or first v false
 others_track {g} {n} {p} {qs} {ms} {first} {gone} {new} tr t l e v h d =
     ap (λ (o : List Bool). get_or o v false) e ∙ get_or-set_other gone t v true false (λ q. omega (arith, q, l, h)) ∙ others_none tr v d
+
+-- a candidate's arc is one of the graph's
+candidate_arc : {g : Graph} {n : ℕ} {qs : List ℕ} {gone : List Bool} {p : ℕ} {tight : List ℕ} → IsGraph g n → AreCandidates g qs gone p tight → p < n → (i : ℕ) → i < length tight → IsArc g n p (get_or tight i 0)
+candidate_arc gr ca h i il = gr.arcs _ _ h (ca.sound i il).arc
+
+-- the plot keeps its mate t, to which its first candidate leads
+pub fixed_pair : {g : Graph} {n p : ℕ} {qs ms new_q new_m : List ℕ} {gone new : List Bool} {tight : List ℕ} → IsGraph g n → AreResting g n qs ms gone → length gone ≡ n → AreCandidates g qs gone p tight
+    → (t : ℕ) → 0 < length tight → to_of g (get_or tight 0 0) ≡ t → p < g.plots → g.plots ≤ n → new ≡ set (set gone p true) t true → AreResting g n new_q new_m new → sum new_q + (get_or qs p 0 + get_or qs t 0) ≡ sum qs
+    → (tracks : ℕ) (row : Row) (rows : List Row) → ShowsRest g n tracks gone p (row ∷ rows) → IsFixedBy g n gone new p (Some (t - g.plots)) tracks row rows
+fixed_pair {g} {n} {p} {qs} {ms} {new_q} {new_m} {gone} {new} {tight} gr r l ca t il te pp le ne nr w tracks row rows sh =
+    let f : (m : ℕ) × Fixing g n tracks p qs ms gone row rows m = fixing gr r l sh in
+    let lo : g.plots ≤ t = elim (candidate_arc gr ca (omega (arith, pp, le)) 0 il).across.sides [ inl s ↦ omega (arith, te, s.1) | inr s ↦ absurd (omega (arith, s.0, pp)) ] in
+    let e : t ≡ g.plots + (t - g.plots) = omega (arith, lo) in
+    let ne' : new ≡ set (set gone p true) (g.plots + (t - g.plots)) true = ne ∙ ap (λ (o : ℕ). set (set gone p true) o true) e in
+    let x : get_or qs p 0 + get_or qs t 0 ≡ cost_at g (get_or tight 0 0) + MISS = ap (λ (o : ℕ). get_or qs p 0 + get_or qs o 0) (sym te) ∙ (ca.sound 0 il).exact in
+    subst (λ (o : List Bool). IsFixedBy g n gone o p (Some (t - g.plots)) tracks row rows) (sym ne')
+    (chosen_track f.1 ca il (λ j h. absurd (omega (arith, h))) (te ∙ e) (subst (AreResting g n new_q new_m) ne' nr) (omega (arith, w, x)))

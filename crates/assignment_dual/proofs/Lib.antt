@@ -1,12 +1,15 @@
 pub mod Sets
 pub mod Duality
 pub mod First
+pub mod Totals
 pub mod Signed
 pub mod Columns
 pub mod Turns
 pub mod Trees
 pub mod Paths
 pub mod Shifts
+pub mod Settling
+pub mod Raising
 pub mod Adding
 pub mod Resting
 pub mod Rests
@@ -17,3 +20,6 @@ pub mod Candidates
 pub mod Prefixes
 pub mod Building
 pub mod Answer
+pub mod Renumbering
+pub mod Parts
+pub mod Restricting

@@ -54,7 +54,7 @@ pub record Turning (g : Graph) (n : ℕ) (qs ms now : List ℕ) (tree : List Nod
   pub out : (v : ℕ) → v < n → v ≢ x → get_or ms v 0 ≡ v → get_or qs v 0 ≢ MISS → get_or now v 0 ≡ v
 
 -- the mate of a node is no vertex seen
-mate_unseen : {g : Graph} {n : ℕ} {qs ms : List ℕ} {seen : List Bool} {tree : List Node} {x : ℕ} → IsGraph g n → AreMates g n qs ms → IsSearchTree g n qs ms seen tree x → get_or ms x 0 ≡ x
+pub mate_unseen : {g : Graph} {n : ℕ} {qs ms : List ℕ} {seen : List Bool} {tree : List Node} {x : ℕ} → IsGraph g n → AreMates g n qs ms → IsSearchTree g n qs ms seen tree x → get_or ms x 0 ≡ x
     → (i m : ℕ) → i < length tree → (0 < i → mate_at ms tree i ≢ vertex_at tree i) → 0 < m → m < length tree → mate_at ms tree i ≢ vertex_at tree m
 mate_unseen {g} {n} {qs} {ms} {seen} {tree} {x} gr am t e zero m h p q l c = root_apart t m q l (sym (sym (ap (λ (v : ℕ). get_or ms v 0) t.root ∙ e) ∙ c))
 mate_unseen {g} {n} {qs} {ms} {seen} {tree} {x} gr am t e (suc i) m h p q l c =

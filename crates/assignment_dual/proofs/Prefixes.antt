@@ -56,7 +56,7 @@ append_none : (entries : List (Option ℕ)) → entries ++ [] ≡ entries
 append_none [] = refl
 append_none (e ∷ entries) = ap (λ (o : List (Option ℕ)). e ∷ o) (append_none entries)
 
-nothing_least : IsLeast [] []
+pub nothing_least : IsLeast [] []
 nothing_least = record { pairing = record { gates = tt; once = tt }; first = λ ys p. inr (refl, tt) }
 
 none_left : {g : Graph} {n tracks p : ℕ} {gone : List Bool} {entries : List (Option ℕ)} {rows : List Row} (left : List Row) → ShowsRest g n tracks gone p left → ((ys : List (Option ℕ)) → IsLeast left ys → IsLeast rows (entries ++ ys)) → g.plots ≤ p → IsLeast rows entries

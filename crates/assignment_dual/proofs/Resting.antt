@@ -1,6 +1,7 @@
 -- A vertex is taken out, or comes back.
-use Rattle.std.proofs.Common.{◌≡◌, ◌≢◌, ◌≤◌, ◌<◌, ◌⊎◌, inl, inr, ℕ, length, get_or, set, true, false, Bool, List, arith, sym, ◌∙◌, ap, get_or-set_same, get_or-set_other}
+use Rattle.std.proofs.Common.{◌≡◌, ◌≢◌, ◌≤◌, ◌<◌, ◌⊎◌, inl, inr, ℕ, ◌+◌, length, get_or, set, sum, true, false, Bool, List, arith, refl, sym, ◌∙◌, ap, get_or-set_same, get_or-set_other}
 use Rattle.std.proofs.lemmas.List.{length-set}
+use Rattle.std.proofs.lemmas.List.Sums.{sum_by-set}
 use Rattle.std.proofs.lemmas.Bool.{cases_eq, cases_Bool}
 use Rattle.assignment_dual.specs.declared.graph.Graph.{Graph}
 use Rattle.assignment_dual.specs.Pairings.{MISS}
@@ -125,3 +126,44 @@ out_parted {n} {qs} {ms} {new_m} {x} {y} lq lm hx p = record {
   y_is = p.y_is;
   others = p.others;
 }
+
+-- x and its mate y are out
+pub pair_rests : {g : Graph} {n : ℕ} {qs ms new_m : List ℕ} {gone : List Bool} {x y : ℕ} → AreResting g n qs ms gone → length gone ≡ n → x < n → y < n → y ≡ get_or ms x 0 → x ≢ y → AreParted ms new_m x y
+    → AreResting g n (set (set qs x 0) y 0) new_m (set (set gone x true) y true)
+pair_rests {g} {n} {qs} {ms} {new_m} {gone} {x} {y} r l hx hyn hy d p =
+    let a : AreOut n qs ms (set qs x 0) new_m x y = out_parted r.priced.count r.mates.count hx p in
+    let b : AreOut n (set qs x 0) new_m (set (set qs x 0) y 0) new_m y y = record {
+      q_count = length-set (set qs x 0) y 0 ∙ a.q_count;
+      m_count = a.m_count;
+      price = get_or-set_same (set qs x 0) y 0 0 (omega (arith, a.q_count, hyn));
+      prices = λ v e. get_or-set_other (set qs x 0) y v 0 0 e;
+      x_is = a.y_is;
+      y_is = a.y_is;
+      others = λ v e f. refl;
+    } in
+    let gl : length (set gone x true) ≡ n = length-set gone x true ∙ l in
+    let away : (v : ℕ) → v ≢ x → v ≢ y → get_or (set (set gone x true) y true) v false ≡ get_or gone v false = λ v e f. gone_before (set gone x true) y v true f ∙ gone_before gone x v true e in
+    record {
+      priced = out_priced (out_priced r.priced a) b;
+      mates = out_mates (out_mates r.mates hx hy a) hyn (sym a.y_is) b;
+      out = λ v h k. elim (cases_eq v y) [
+        | inl e ↦ (ap (λ (i : ℕ). get_or new_m i 0) e ∙ a.y_is ∙ sym e, ap (λ (i : ℕ). get_or (set (set qs x 0) y 0) i 0) e ∙ b.price)
+        | inr f ↦ elim (cases_eq v x) [
+          | inl e ↦ (ap (λ (i : ℕ). get_or new_m i 0) e ∙ a.x_is ∙ sym e, b.prices v f ∙ ap (λ (i : ℕ). get_or (set qs x 0) i 0) e ∙ a.price)
+          | inr e ↦
+              let k' : get_or gone v false ≡ true = sym (away v e f) ∙ k in
+              (a.others v e f ∙ (r.out v h k').0, b.prices v f ∙ a.prices v e ∙ (r.out v h k').1)
+        ]
+      ];
+      full = λ v h k m.
+          let f : v ≢ y = λ q. false_true (ap (λ (o : ℕ). get_or (set (set gone x true) y true) o false) q ∙ get_or-set_same (set gone x true) y true false (omega (arith, hyn, gl))) k in
+          let e : v ≢ x = λ q. false_true (gone_before (set gone x true) y v true f ∙ ap (λ (o : ℕ). get_or (set gone x true) o false) q ∙ get_or-set_same gone x true false (omega (arith, hx, l))) k in
+          b.prices v f ∙ a.prices v e ∙ r.full v h (sym (away v e f) ∙ k) (sym (a.others v e f) ∙ m);
+    }
+
+pub pair_sum : (qs : List ℕ) (x y : ℕ) → x < length qs → y < length qs → x ≢ y → sum (set (set qs x 0) y 0) + (get_or qs x 0 + get_or qs y 0) ≡ sum qs
+pair_sum qs x y hx hy d =
+    let one : sum (set qs x 0) + get_or qs x 0 ≡ sum qs + 0 = sum_by-set (λ (q : ℕ). q) qs x 0 0 hx in
+    let two : sum (set (set qs x 0) y 0) + get_or (set qs x 0) y 0 ≡ sum (set qs x 0) + 0 = sum_by-set (λ (q : ℕ). q) (set qs x 0) y 0 0 (omega (arith, hy, length-set qs x 0)) in
+    let same : get_or (set qs x 0) y 0 ≡ get_or qs y 0 = get_or-set_other qs x y 0 0 (λ e. d (sym e)) in
+    omega (arith, one, two, same)

@@ -1,29 +1,52 @@
 -- Prices after a shift.
-use Rattle.std.proofs.Common.{◌≡◌, ◌≢◌, ◌≤◌, ◌<◌, inl, inr, ℕ, ◌+◌, length, get_or, true, false, Bool, List, [], ◌∷◌, arith, refl, sym, ◌∙◌, ap, subst}
+use Rattle.std.proofs.Common.{◌≡◌, ◌≢◌, ◌≤◌, ◌<◌, ◌⊎◌, inl, inr, ℕ, ◌+◌, length, get_or, true, false, Bool, List, arith, refl, sym, ◌∙◌, ap, subst}
 use Rattle.std.proofs.lemmas.List.{get_or_past}
-use Rattle.std.proofs.lemmas.Bool.{cases_lt}
+use Rattle.std.proofs.lemmas.Bool.{cases_lt, cases_Bool}
 use Rattle.assignment_dual.specs.declared.graph.Graph.{Graph}
 use Rattle.assignment_dual.specs.declared.search.Node.{Node}
 use Rattle.assignment_dual.specs.Pairings.{MISS}
-use Rattle.assignment_dual.specs.Vertices.{Across, HasArc, to_of, cost_at, GoesBack, IsArc, IsGraph, IsPriced, Tight, AreMates, OthersPay, IsSettled}
-use Rattle.assignment_dual.specs.Search.{IsSwept, vertex_at, from_at, mate_at, IsSearchTree, ArePaired, IsExhausted, IsPlaced}
-use Rattle.assignment_dual.specs.Rising.{Rises, HasRoom, IsTree, AllHaveRoom, Moved, AreShifted}
+use Rattle.assignment_dual.specs.Vertices.{Across, HasArc, to_of, cost_at, GoesBack, IsArc, IsGraph, IsPriced, Tight, AreMates}
+use Rattle.assignment_dual.specs.Search.{SeenAcross, IsSwept, mate_at}
+use Rattle.assignment_dual.specs.Rising.{HasRoom, AllHaveRoom}
 use Rattle.assignment_dual.proofs.Turns.{across_differ, across_back, across_thrice, mates_across}
 
+-- x and the mates of those seen
+abbrev pub Rises : List ℕ → List Bool → ℕ → ℕ → Type 0
+Rises ms seen x v = (v ≡ x) ⊎ (get_or seen (get_or ms v 0) false ≡ true)
+
+-- what a failed search leaves
+pub record IsTree (g : Graph) (n : ℕ) (qs ms : List ℕ) (seen : List Bool) (x : ℕ) : Type 0 where
+  pub across : SeenAcross g.plots seen x
+  pub paired : (y : ℕ) → get_or seen y false ≡ true → get_or ms y 0 ≢ y
+  pub swept : (v : ℕ) → v < n → Rises ms seen x v → IsSwept g qs seen v
+
+pub record EachHasRoom (g : Graph) (n : ℕ) (qs ms : List ℕ) (seen : List Bool) (x d : ℕ) : Type 0 where
+  pub room : (v : ℕ) → v < n → Rises ms seen x v → HasRoom g qs seen v d
+
+-- those seen fall, those that rise rise, the others stay
+abbrev pub Moved : List ℕ → List ℕ → List ℕ → List Bool → ℕ → ℕ → ℕ → Type 0
+Moved qs new ms seen x d v =
+    ((get_or seen v false ≡ true) × (get_or new v 0 + d ≡ get_or qs v 0))
+    ⊎ ((get_or seen v false ≡ false) × Rises ms seen x v × (get_or new v 0 ≡ get_or qs v 0 + d))
+    ⊎ ((get_or seen v false ≡ false) × (Rises ms seen x v → ⊥) × (get_or new v 0 ≡ get_or qs v 0))
+
+pub record AreMoved (n : ℕ) (qs new ms : List ℕ) (seen : List Bool) (x d : ℕ) : Type 0 where
+  pub count : length new ≡ length qs
+  pub moved : (v : ℕ) → v < n → Moved qs new ms seen x d v
+
+-- the arcs of x before k have been looked at
 pub record Roomy (g : Graph) (qs : List ℕ) (seen : List Bool) (x k d : ℕ) : Type 0 where
   pub some : 0 < d
   pub alone : get_or qs x 0 + d ≤ MISS
   pub from : get_or g.first.items x 0 ≤ k
   pub arcs : (j : ℕ) → HasArc g x j → j < k → get_or seen (to_of g j) false ≡ false → get_or qs x 0 + get_or qs (to_of g j) 0 + d ≤ cost_at g j + MISS
+  pub most : (e : ℕ) → HasRoom g qs seen x e → e ≤ d
 
-pub record RoomyBelow (g : Graph) (qs ms : List ℕ) (seen : List Bool) (x i d : ℕ) : Type 0 where
+-- the nodes before i have been looked at
+pub record RoomyBelow (g : Graph) (qs ms : List ℕ) (seen : List Bool) (tree : List Node) (i d : ℕ) : Type 0 where
   pub some : 0 < d
-  pub room : (v : ℕ) → v < i → Rises ms seen x v → HasRoom g qs seen v d
-
-pub record ShiftedBelow (qs new ms : List ℕ) (seen : List Bool) (x d i : ℕ) : Type 0 where
-  pub count : length new ≡ length qs
-  pub done : (v : ℕ) → v < i → Moved qs new ms seen x d v
-  pub left : (v : ℕ) → i ≤ v → get_or new v 0 ≡ get_or qs v 0
+  pub room : (j : ℕ) → j < i → HasRoom g qs seen (mate_at ms tree j) d
+  pub most : (e : ℕ) → AllHaveRoom g qs ms seen tree e → e ≤ d
 
 pub less_room : {g : Graph} {qs : List ℕ} {seen : List Bool} {v d e : ℕ} → HasRoom g qs seen v d → e ≤ d → HasRoom g qs seen v e
 less_room h l = record { alone = omega (arith, h.alone); arcs = λ k a s. omega (arith, h.arcs k a s) }
@@ -53,20 +76,45 @@ pub rises_apart : {g : Graph} {n : ℕ} {qs ms : List ℕ} {seen : List Bool} {x
 rises_apart {g} {n} {qs} {ms} {seen} {x} {v} {u} gr am tr h k r q a =
     across_differ (rises_across gr am tr k q (across_back (rises_across gr am tr h r a))) refl
 
-pub roomy_more : {g : Graph} {qs ms : List ℕ} {seen : List Bool} {x i d e : ℕ} → RoomyBelow g qs ms seen x i d → 0 < e → e ≤ d → (Rises ms seen x i → HasRoom g qs seen i e) → RoomyBelow g qs ms seen x (i + 1) e
-roomy_more {g} {qs} {ms} {seen} {x} {i} {d} {e} b p l h = record {
+-- one arc more has been looked at, for whose sake x may rise by f
+pub roomy_next : {g : Graph} {qs : List ℕ} {seen : List Bool} {x k d e : ℕ} (f : ℕ) → Roomy g qs seen x k d → HasArc g x k → (get_or seen (to_of g k) false ≡ false → get_or qs x 0 + get_or qs (to_of g k) 0 + f ≡ cost_at g k + MISS)
+    → (get_or seen (to_of g k) false ≡ true → f ≡ MISS) → 0 < e → e ≤ d → e ≤ f → (e ≡ d) ⊎ (e ≡ f) → Roomy g qs seen x (k + 1) e
+roomy_next {g} {qs} {seen} {x} {k} {d} {e} f s a free within p l m either = record {
   some = p;
-  room = λ v k r. elim (cases_lt v i) [
-    | inl j ↦ less_room (b.room v j r) l
-    | inr j ↦ let q : v ≡ i = omega arith in subst (λ (o : ℕ). Rises ms seen x o → HasRoom g qs seen o e) (sym q) h r
+  alone = omega (arith, s.alone, l);
+  from = omega (arith, s.from);
+  arcs = λ j b h u. elim (cases_lt j k) [
+    | inl q ↦ omega (arith, s.arcs j b q u, l)
+    | inr q ↦
+        let z : j ≡ k = omega (arith, h, q) in
+        let t : get_or qs x 0 + get_or qs (to_of g k) 0 + e ≤ cost_at g k + MISS = omega (arith, free (ap (λ (o : ℕ). get_or seen (to_of g o) false) (sym z) ∙ u), m) in
+        subst (λ (o : ℕ). get_or qs x 0 + get_or qs (to_of g o) 0 + e ≤ cost_at g o + MISS) (sym z) t
   ];
+  most = λ o h. elim either [
+    | inl q ↦ omega (arith, q, s.most o h)
+    | inr q ↦ elim (cases_Bool (get_or seen (to_of g k) false)) [
+      | inl t ↦ omega (arith, q, within t, h.alone)
+      | inr u ↦ omega (arith, q, free u, h.arcs k a u)
+    ]
+  ];
+}
+
+pub roomy_more : {g : Graph} {qs ms : List ℕ} {seen : List Bool} {tree : List Node} {i d e f : ℕ} → RoomyBelow g qs ms seen tree i d → i < length tree → HasRoom g qs seen (mate_at ms tree i) f → ((o : ℕ) → HasRoom g qs seen (mate_at ms tree i) o → o ≤ f)
+    → 0 < e → e ≤ d → e ≤ f → (e ≡ d) ⊎ (e ≡ f) → RoomyBelow g qs ms seen tree (i + 1) e
+roomy_more {g} {qs} {ms} {seen} {tree} {i} {d} {e} {f} b il h most p l m either = record {
+  some = p;
+  room = λ j k. elim (cases_lt j i) [
+    | inl q ↦ less_room (b.room j q) l
+    | inr q ↦ let z : j ≡ i = omega (arith, k, q) in subst (λ (o : ℕ). HasRoom g qs seen (mate_at ms tree o) e) (sym z) (less_room h m)
+  ];
+  most = λ o a. elim either [ inl q ↦ omega (arith, q, b.most o a) | inr q ↦ omega (arith, q, most o (a.room i il)) ];
 }
 
 pub priced_past : (qs : List ℕ) (n x : ℕ) → length qs ≡ n → n ≤ x → get_or qs x 0 ≡ 0
 priced_past qs n x e l = get_or_past qs x 0 (omega arith)
 
 -- the prices after the shift are undercut by no arc
-arc_kept : {g : Graph} {n : ℕ} {qs new ms : List ℕ} {seen : List Bool} {x d : ℕ} → IsGraph g n → IsPriced g n qs → AreMates g n qs ms → IsTree g n qs ms seen x → AllHaveRoom g n qs ms seen x d → AreShifted n qs new ms seen x d
+arc_kept : {g : Graph} {n : ℕ} {qs new ms : List ℕ} {seen : List Bool} {x d : ℕ} → IsGraph g n → IsPriced g n qs → AreMates g n qs ms → IsTree g n qs ms seen x → EachHasRoom g n qs ms seen x d → AreMoved n qs new ms seen x d
     → (v k : ℕ) → v < n → HasArc g v k → get_or new v 0 + get_or new (to_of g k) 0 ≤ cost_at g k + MISS
 arc_kept {g} {n} {qs} {new} {ms} {seen} {x} {d} gr pr am te ro sh v k h a =
     let i : IsArc g n v k = gr.arcs v k h a in
@@ -99,7 +147,7 @@ arc_kept {g} {n} {qs} {new} {ms} {seen} {x} {d} gr pr am te ro sh v k h a =
       ]
     ]
 
-pub shifted_priced : {g : Graph} {n : ℕ} {qs new ms : List ℕ} {seen : List Bool} {x d : ℕ} → IsGraph g n → IsPriced g n qs → AreMates g n qs ms → IsTree g n qs ms seen x → AllHaveRoom g n qs ms seen x d → AreShifted n qs new ms seen x d → IsPriced g n new
+pub shifted_priced : {g : Graph} {n : ℕ} {qs new ms : List ℕ} {seen : List Bool} {x d : ℕ} → IsGraph g n → IsPriced g n qs → AreMates g n qs ms → IsTree g n qs ms seen x → EachHasRoom g n qs ms seen x d → AreMoved n qs new ms seen x d → IsPriced g n new
 shifted_priced {g} {n} {qs} {new} {ms} {seen} {x} {d} gr pr am te ro sh = record {
   count = sh.count ∙ pr.count;
   alone = λ v. elim (cases_lt v n) [
@@ -116,7 +164,7 @@ pub false_true : {b : Bool} → b ≡ true → b ≡ false → ⊥
 false_true h k = cc
 
 -- mates rise and fall together
-mate_kept : {g : Graph} {n : ℕ} {qs new ms : List ℕ} {seen : List Bool} {x d : ℕ} → IsGraph g n → AreMates g n qs ms → IsTree g n qs ms seen x → AreShifted n qs new ms seen x d → get_or ms x 0 ≡ x
+mate_kept : {g : Graph} {n : ℕ} {qs new ms : List ℕ} {seen : List Bool} {x d : ℕ} → IsGraph g n → AreMates g n qs ms → IsTree g n qs ms seen x → AreMoved n qs new ms seen x d → get_or ms x 0 ≡ x
     → (v : ℕ) → v < n → get_or ms v 0 ≢ v → get_or new v 0 + get_or new (get_or ms v 0) 0 ≡ get_or qs v 0 + get_or qs (get_or ms v 0) 0
 mate_kept {g} {n} {qs} {new} {ms} {seen} {x} {d} gr am te sh ex v h m =
     let bk : get_or ms (get_or ms v 0) 0 ≡ v = am.back v h in
@@ -146,7 +194,7 @@ mate_kept {g} {n} {qs} {new} {ms} {seen} {x} {d} gr am te sh ex v h m =
       ]
     ]
 
-pub shifted_mates : {g : Graph} {n : ℕ} {qs new ms : List ℕ} {seen : List Bool} {x d : ℕ} → IsGraph g n → AreMates g n qs ms → IsTree g n qs ms seen x → AreShifted n qs new ms seen x d → get_or ms x 0 ≡ x → AreMates g n new ms
+pub shifted_mates : {g : Graph} {n : ℕ} {qs new ms : List ℕ} {seen : List Bool} {x d : ℕ} → IsGraph g n → AreMates g n qs ms → IsTree g n qs ms seen x → AreMoved n qs new ms seen x d → get_or ms x 0 ≡ x → AreMates g n new ms
 shifted_mates {g} {n} {qs} {new} {ms} {seen} {x} {d} gr am te sh ex = record {
   count = am.count;
   within = am.within;
@@ -157,7 +205,7 @@ shifted_mates {g} {n} {qs} {new} {ms} {seen} {x} {d} gr am te sh ex = record {
 }
 
 -- who is alone and isn't x keeps the price
-pub shifted_alone : {g : Graph} {n : ℕ} {qs new ms : List ℕ} {seen : List Bool} {x d : ℕ} → IsTree g n qs ms seen x → AreShifted n qs new ms seen x d → (v : ℕ) → v < n → v ≢ x → get_or ms v 0 ≡ v → get_or new v 0 ≡ get_or qs v 0
+pub shifted_alone : {g : Graph} {n : ℕ} {qs new ms : List ℕ} {seen : List Bool} {x d : ℕ} → IsTree g n qs ms seen x → AreMoved n qs new ms seen x d → (v : ℕ) → v < n → v ≢ x → get_or ms v 0 ≡ v → get_or new v 0 ≡ get_or qs v 0
 shifted_alone {g} {n} {qs} {new} {ms} {seen} {x} {d} te sh v h i e = elim (sh.moved v h) [
   | inl f ↦ absurd (te.paired v f.0 e)
   | inr q ↦ elim q [
@@ -167,127 +215,8 @@ shifted_alone {g} {n} {qs} {new} {ms} {seen} {x} {d} te sh v h i e = elim (sh.mo
 ]
 
 -- x itself rises
-pub shifted_root : {g : Graph} {n : ℕ} {qs new ms : List ℕ} {seen : List Bool} {x d : ℕ} → IsTree g n qs ms seen x → AreShifted n qs new ms seen x d → x < n → get_or new x 0 ≡ get_or qs x 0 + d
+pub shifted_root : {g : Graph} {n : ℕ} {qs new ms : List ℕ} {seen : List Bool} {x d : ℕ} → IsTree g n qs ms seen x → AreMoved n qs new ms seen x d → x < n → get_or new x 0 ≡ get_or qs x 0 + d
 shifted_root te sh h = elim (sh.moved _ h) [
   | inl f ↦ absurd (across_differ (te.across.across _ f.0) refl)
   | inr q ↦ elim q [ inl f ↦ f.2 | inr f ↦ absurd (f.1 (inl refl)) ]
 ]
-
--- whoever falls has room to fall
-pub room_to_fall : {g : Graph} {n : ℕ} {qs ms : List ℕ} {seen : List Bool} {x d : ℕ} → IsGraph g n → AreMates g n qs ms → IsTree g n qs ms seen x → AllHaveRoom g n qs ms seen x d → (v : ℕ) → v < n → get_or seen v false ≡ true → d ≤ get_or qs v 0
-room_to_fall {g} {n} {qs} {ms} {seen} {x} {d} gr am te ro v h s =
-    let bk : get_or ms (get_or ms v 0) 0 ≡ v = am.back v h in
-    let r : HasRoom g qs seen (get_or ms v 0) d = ro.room (get_or ms v 0) (am.within v h) (inr (ap (λ (i : ℕ). get_or seen i false) bk ∙ s)) in
-    let t : Tight g qs v (get_or ms v 0) = am.tight v h (te.paired v s) in
-    omega (arith, r.alone, t.1.exact)
-
--- the tree of a search that failed
-pub tree_of : {g : Graph} {n : ℕ} {qs ms : List ℕ} {seen : List Bool} {tree : List Node} {x : ℕ} → IsSearchTree g n qs ms seen tree x → IsExhausted g qs ms seen tree → AreMates g n qs ms → get_or ms x 0 ≡ x → IsTree g n qs ms seen x
-tree_of {g} {n} {qs} {ms} {seen} {tree} {x} t ex am mx = record {
-  across = t.across;
-  paired = λ y s e.
-      let k : (i : ℕ) × (0 < i) × (i < length tree) × (vertex_at tree i ≡ y) = t.known y s in
-      ex.paired.paired k.0 k.1 k.2 (ap (λ (v : ℕ). get_or ms v 0) k.3 ∙ e ∙ sym k.3);
-  swept = λ v h r. elim r [
-    | inl e ↦ subst (IsSwept g qs seen) (ap (λ (o : ℕ). get_or ms o 0) t.root ∙ mx ∙ sym e) (ex.swept 0 t.some)
-    | inr s ↦
-        let k : (i : ℕ) × (0 < i) × (i < length tree) × (vertex_at tree i ≡ get_or ms v 0) = t.known (get_or ms v 0) s in
-        subst (IsSwept g qs seen) (ap (λ (o : ℕ). get_or ms o 0) k.3 ∙ am.back v h) (ex.swept k.0 k.2)
-  ];
-}
-
--- the tree's arcs stay tight
-pub tree_shifted : {g : Graph} {n : ℕ} {qs new ms : List ℕ} {seen : List Bool} {tree : List Node} {x d : ℕ} → IsGraph g n → AreMates g n qs ms → IsSearchTree g n qs ms seen tree x → IsTree g n qs ms seen x → AreShifted n qs new ms seen x d → get_or ms x 0 ≡ x
-    → IsSearchTree g n new ms seen tree x
-tree_shifted {g} {n} {qs} {new} {ms} {seen} {tree} {x} {d} gr am t te sh mx = record {
-  some = t.some;
-  root = t.root;
-  within = t.within;
-  earlier = t.earlier;
-  marked = t.marked;
-  distinct = t.distinct;
-  known = t.known;
-  across = t.across;
-  tight = λ i p h.
-      let b : from_at tree i < length tree = omega (arith, t.earlier i p h, h) in
-      let vb : vertex_at tree (from_at tree i) < n = t.within (from_at tree i) b in
-      let ta : Tight g qs (mate_at ms tree (from_at tree i)) (vertex_at tree i) = t.tight i p h in
-      let mn : mate_at ms tree (from_at tree i) < n = am.within _ vb in
-      let fell : get_or new (vertex_at tree i) 0 + d ≡ get_or qs (vertex_at tree i) 0 = elim (sh.moved (vertex_at tree i) (t.within i h)) [
-        | inl f ↦ f.1
-        | inr o ↦ elim o [ inl f ↦ absurd (false_true (t.marked i p h) f.0) | inr f ↦ absurd (false_true (t.marked i p h) f.0) ]
-      ] in
-      let r : Rises ms seen x (mate_at ms tree (from_at tree i)) = elim (cases_lt 0 (from_at tree i)) [
-        | inl q ↦ inr (ap (λ (v : ℕ). get_or seen v false) (am.back _ vb) ∙ t.marked (from_at tree i) q b)
-        | inr q ↦ inl (ap (mate_at ms tree) (omega (arith, q)) ∙ ap (λ (v : ℕ). get_or ms v 0) t.root ∙ mx)
-      ] in
-      let rose : get_or new (mate_at ms tree (from_at tree i)) 0 ≡ get_or qs (mate_at ms tree (from_at tree i)) 0 + d = elim (sh.moved (mate_at ms tree (from_at tree i)) mn) [
-        | inl f ↦ absurd (rises_not_seen gr am te mn r f.0)
-        | inr o ↦ elim o [ inl f ↦ f.2 | inr f ↦ absurd (f.1 r) ]
-      ] in
-      (ta.0, record { arc = ta.1.arc; to = ta.1.to; exact = omega (arith, ta.1.exact, fell, rose) });
-}
-
--- x's place is sought
-pub record Settling (g : Graph) (qs ms now_q : List ℕ) (seen : List Bool) (tree : List Node) (x : ℕ) : Type 0 where
-  pub count : length now_q ≡ length qs
-  pub seen_count : length seen ≡ length qs
-  pub priced : IsPriced g (length qs) now_q
-  pub mates : AreMates g (length qs) now_q ms
-  pub pay : OthersPay (length qs) now_q ms x
-  pub kept : (v : ℕ) → v < length qs → v ≢ x → get_or ms v 0 ≡ v → get_or now_q v 0 ≡ get_or qs v 0
-  pub search : IsSearchTree g (length qs) now_q ms seen tree x
-  pub paired : ArePaired ms tree (length tree)
-
-pub settled : {g : Graph} {qs ms now_q new : List ℕ} {seen : List Bool} {tree : List Node} {x : ℕ} → Settling g qs ms now_q seen tree x → IsPlaced (length qs) now_q ms new x → IsSettled (length qs) qs ms now_q new x
-settled {g} {qs} {ms} {now_q} {new} {seen} {tree} {x} s p = record {
-  alone = λ v h e. elim (p.alone v h e) [ inl a ↦ inl a | inr b ↦ inr (b.0, b.1, s.kept v h b.0 b.1) ];
-  out = λ v h i e f. (p.out v h i e (λ q. f (sym (s.kept v h i e) ∙ q)), s.kept v h i e);
-}
-
-pub settling_next : {g : Graph} {qs ms now_q new : List ℕ} {first seen : List Bool} {before tree : List Node} {x d : ℕ} → IsGraph g (length qs) → get_or ms x 0 ≡ x → Settling g qs ms now_q first before x → length seen ≡ length first
-    → IsSearchTree g (length qs) now_q ms seen tree x → IsExhausted g now_q ms seen tree
-    → AllHaveRoom g (length qs) now_q ms seen x d → AreShifted (length qs) now_q new ms seen x d → Settling g qs ms new seen tree x
-settling_next {g} {qs} {ms} {now_q} {new} {first} {seen} {before} {tree} {x} {d} gr mx s l t ex ro sh =
-    let te : IsTree g (length qs) now_q ms seen x = tree_of t ex s.mates mx in
-    record {
-      count = sh.count ∙ s.count;
-      seen_count = l ∙ s.seen_count;
-      priced = shifted_priced gr s.priced s.mates te ro sh;
-      mates = shifted_mates gr s.mates te sh mx;
-      pay = record {
-        pay = λ v h i q. elim (s.pay.pay v h i q) [
-          | inl a ↦ inl (shifted_alone te sh v h i q ∙ a)
-          | inr a ↦ inr (shifted_alone te sh v h i q ∙ a)
-        ];
-      };
-      kept = λ v h i q. shifted_alone te sh v h i q ∙ s.kept v h i q;
-      search = tree_shifted gr s.mates t te sh mx;
-      paired = ex.paired;
-    }
-
--- the root alone
-pub root_tree : {g : Graph} {n : ℕ} {qs ms : List ℕ} {seen : List Bool} {x : ℕ} → x < n → ((y : ℕ) → get_or seen y false ≡ false) → IsSearchTree g n qs ms seen ((record { vertex = x; from = 0 }) ∷ []) x
-root_tree {g} {n} {qs} {ms} {seen} {x} h z = record {
-  some = omega arith;
-  root = refl;
-  within = λ i j. let e : 0 ≡ i = omega (arith, j) in subst (λ (o : ℕ). vertex_at ((record { vertex = x; from = 0 }) ∷ []) o < n) e h;
-  earlier = λ i p j. absurd (omega (arith, p, j));
-  tight = λ i p j. absurd (omega (arith, p, j));
-  marked = λ i p j. absurd (omega (arith, p, j));
-  distinct = λ i j p q r. absurd (omega (arith, p, q, r));
-  known = λ y s. absurd (false_true s (z y));
-  across = record { across = λ y s. absurd (false_true s (z y)) };
-}
-
-pub settling_step : {g : Graph} {qs ms now_q now_m then_m new : List ℕ} {first seen : List Bool} {before tree : List Node} {x d : ℕ} → IsGraph g (length qs) → get_or ms x 0 ≡ x → now_m ≡ ms → Settling g qs ms now_q first before x
-    → then_m ≡ now_m → length seen ≡ length first → IsSearchTree g (length now_q) now_q now_m seen tree (vertex_at before 0) → IsExhausted g now_q now_m seen tree
-    → AllHaveRoom g (length now_q) now_q then_m seen x d → AreShifted (length now_q) now_q new then_m seen x d → (then_m ≡ ms) × Settling g qs ms new seen tree x
-settling_step {g} {qs} {ms} {now_q} {now_m} {then_m} {new} {first} {seen} {before} {tree} {x} {d} gr mx e s f l t ex ro sh = (
-  f ∙ e,
-  settling_next gr mx s l
-      (subst (IsSearchTree g (length qs) now_q ms seen tree) s.search.root (subst (λ (o : List ℕ). IsSearchTree g (length qs) now_q o seen tree (vertex_at before 0)) e (subst (λ (n : ℕ). IsSearchTree g n now_q now_m seen tree (vertex_at before 0)) s.count t)))
-      (subst (λ (o : List ℕ). IsExhausted g now_q o seen tree) e ex)
-      (subst (λ (o : List ℕ). AllHaveRoom g (length qs) now_q o seen x d) (f ∙ e) (subst (λ (n : ℕ). AllHaveRoom g n now_q then_m seen x d) s.count ro))
-      (subst (λ (o : List ℕ). AreShifted (length qs) now_q new o seen x d) (f ∙ e) (subst (λ (n : ℕ). AreShifted n now_q new then_m seen x d) s.count sh)),
-)

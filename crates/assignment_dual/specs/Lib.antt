@@ -3,7 +3,10 @@ pub mod Problems
 pub mod First
 pub mod Vertices
 pub mod Search
+pub mod Totals
 pub mod Rising
 pub mod Rests
 pub mod Choices
 pub mod Graphs
+pub mod Renumbering
+pub mod Parts

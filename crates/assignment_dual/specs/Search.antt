@@ -82,3 +82,7 @@ pub record AreParted (ms new : List ℕ) (x y : ℕ) : Type 0 where
   pub x_is : get_or new x 0 ≡ x
   pub y_is : get_or new y 0 ≡ y
   pub others : (v : ℕ) → v ≢ x → v ≢ y → get_or new v 0 ≡ get_or ms v 0
+
+-- no vertex is seen
+pub record NoneSeen (seen : List Bool) : Type 0 where
+  pub each : (y : ℕ) → get_or seen y false ≡ false

@@ -18,6 +18,7 @@ mod fix;
 mod graph;
 mod laws;
 mod place;
+mod prices;
 mod raise;
 mod search;
 mod solving;
@@ -26,5 +27,5 @@ mod tests;
 mod tie;
 
 pub use costs::{Costs, Solved};
-pub use laws::{disjoint_sets, proven_least};
+pub use laws::{disjoint_sets, many_parts, part_of_batch, proven_least, renumbered_tracks};
 pub use solving::solve;

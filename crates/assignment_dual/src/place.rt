@@ -3,26 +3,30 @@
 ghost use Rattle.std.specs.Prelude.{◌≡◌, ◌≤◌, ◌<◌, ℕ, ◌+◌, length, get_or, true, false, Bool, List, OnOk};
 ghost use Rattle.assignment_dual.specs.Pairings.{MISS};
 ghost use Rattle.assignment_dual.specs.Vertices.{IsGraph, IsPriced, AreMates, OthersPay, IsSettled};
+ghost use Rattle.assignment_dual.specs.Search.{vertex_at, NoneSeen};
 
 use crate::graph::Graph;
+use crate::prices::Prices;
 use crate::raise::{least_room, shift};
 use crate::search::{Node, reach};
 use trk_base::NoMemory;
 
-/// No vertex is seen.
-fn clear(seen: &mut [bool])
-    ensures clear { (y : ℕ) → get_or seen.new y false ≡ false }
+/// Forgets what a search has seen.
+fn forget(seen: &mut [bool], tree: &[Node])
+    requires within { (i : ℕ) → i < length tree.now → vertex_at tree.now i < length seen.old }
+    requires known { (y : ℕ) → get_or seen.old y false ≡ true → (i : ℕ) × (i < length tree.now) × (vertex_at tree.now i ≡ y) }
+    ensures { NoneSeen seen.new }
 {
-    for flag in seen.iter_mut() {
-        *flag = false;
+    for node in tree {
+        seen[node.vertex] = false;
     }
 }
 
 /// Gives x its place; prices move where they must. The tree stays as it is when they move, since
-/// its arcs stay tight.
+/// its arcs stay tight, and all work is by the size of the tree.
 pub fn settle(
     graph: &Graph,
-    prices: &mut [u32],
+    prices: &mut Prices,
     mates: &mut [usize],
     seen: &mut [bool],
     tree: &mut Vec<Node>,
@@ -33,21 +37,23 @@ pub fn settle(
     requires mates { AreMates graph.now (length prices.old) prices.old mates.old }
     requires pay { OthersPay (length prices.old) prices.old mates.old x }
     requires seen { length seen.old ≡ length prices.old }
+    requires none_seen { NoneSeen seen.old }
     requires x { x < length prices.old }
     requires alone { get_or mates.old x 0 ≡ x }
     ensures priced { OnOk result (IsPriced graph.now (length prices.old) prices.new) }
     ensures mates { OnOk result (AreMates graph.now (length prices.old) prices.new mates.new) }
     ensures settled { OnOk result (IsSettled (length prices.old) prices.old mates.old prices.new mates.new x) }
+    ensures none_seen { OnOk result (NoneSeen seen.new) }
 {
-    clear(seen);
     tree.clear();
     tree.push(Node { vertex: x, from: 0 })?;
     'rounds: loop {
         if reach(graph, prices, mates, seen, tree)? {
+            forget(seen, tree);
             return Ok(());
         }
-        let by = least_room(graph, prices, mates, seen, x);
-        shift(prices, mates, seen, x, by);
+        let by = least_room(graph, prices, mates, seen, tree);
+        shift(prices, mates, tree, by);
     }
 }
 
@@ -55,7 +61,7 @@ pub fn settle(
 /// plots stand out.
 pub fn settle_all(
     graph: &Graph,
-    prices: &mut [u32],
+    prices: &mut Prices,
     mates: &mut [usize],
     seen: &mut [bool],
     tree: &mut Vec<Node>,
@@ -63,6 +69,7 @@ pub fn settle_all(
     requires graph { IsGraph graph.now (length prices.old) }
     requires plots { graph.now.plots ≤ length prices.old }
     requires seen { length seen.old ≡ length prices.old }
+    requires none_seen { NoneSeen seen.old }
     requires count { length mates.old ≡ length prices.old }
     requires alone { (v : ℕ) → v < length prices.old → get_or mates.old v 0 ≡ v }
     requires out { (v : ℕ) → v < graph.now.plots → get_or prices.old v 0 ≡ 0 }
@@ -70,6 +77,7 @@ pub fn settle_all(
     ensures priced { OnOk result (IsPriced graph.now (length prices.old) prices.new) }
     ensures mates { OnOk result (AreMates graph.now (length prices.old) prices.new mates.new) }
     ensures full { OnOk result ((v : ℕ) → v < length prices.old → get_or mates.new v 0 ≡ v → get_or prices.new v 0 ≡ MISS) }
+    ensures none_seen { OnOk result (NoneSeen seen.new) }
 {
     for p in 0..graph.plots {
         settle(graph, prices, mates, seen, tree, p)?;

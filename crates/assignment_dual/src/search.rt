@@ -6,10 +6,8 @@ ghost use Rattle.assignment_dual.specs.Vertices.{HasArc, to_of, cost_at, IsGraph
 ghost use Rattle.assignment_dual.specs.Search.{unseen, IsSwept, vertex_at, mate_at, IsSearchTree, ArePaired, IsEnd, IsExhausted, GoesOn, IsPlaced, AreTurned, AreParted};
 
 use crate::graph::Graph;
+use crate::prices::{ALONE, Prices};
 use trk_base::NoMemory;
-
-/// What a vertex pays that stays alone.
-pub const ALONE: u32 = 4097;
 
 /// A vertex that a search has seen. Its mate belongs to the tree with it.
 #[derive(Clone, Copy)]
@@ -21,7 +19,7 @@ pub struct Node {
 }
 
 /// The mate of a node's vertex.
-fn mate_of(mates: &[usize], tree: &[Node], i: usize) -> usize
+pub fn mate_of(mates: &[usize], tree: &[Node], i: usize) -> usize
     requires i { i < length tree.now }
     requires within { vertex_at tree.now i < length mates.now }
     ensures { result ≡ mate_at mates.now tree.now i }
@@ -30,7 +28,7 @@ fn mate_of(mates: &[usize], tree: &[Node], i: usize) -> usize
 }
 
 /// Where the arc k of x leads, and how much more the two prices may be together.
-pub fn slack(graph: &Graph, prices: &[u32], x: usize, k: usize) -> (usize, u32)
+pub fn slack(graph: &Graph, prices: &Prices, x: usize, k: usize) -> (usize, u32)
     requires graph { IsGraph graph.now (length prices.now) }
     requires priced { IsPriced graph.now (length prices.now) prices.now }
     requires x { x < length prices.now }
@@ -40,11 +38,14 @@ pub fn slack(graph: &Graph, prices: &[u32], x: usize, k: usize) -> (usize, u32)
     ensures slack { get_or prices.now x 0 + get_or prices.now (to_of graph.now k) 0 + result.1 ≡ cost_at graph.now k + MISS }
 {
     let arc = graph.arcs[k];
-    (arc.to, arc.cost + ALONE - (prices[x] + prices[arc.to]))
+    (
+        arc.to,
+        arc.cost + ALONE - (prices.at(x) + prices.at(arc.to)),
+    )
 }
 
 /// Where the arc k of x leads, if it is tight and leads to a vertex that isn't seen.
-fn opens(graph: &Graph, prices: &[u32], seen: &[bool], x: usize, k: usize) -> Option<usize>
+fn opens(graph: &Graph, prices: &Prices, seen: &[bool], x: usize, k: usize) -> Option<usize>
     requires graph { IsGraph graph.now (length prices.now) }
     requires priced { IsPriced graph.now (length prices.now) prices.now }
     requires seen { length seen.now ≡ length prices.now }
@@ -65,7 +66,7 @@ fn opens(graph: &Graph, prices: &[u32], seen: &[bool], x: usize, k: usize) -> Op
 /// alone. Its node is answered.
 fn sweep(
     graph: &Graph,
-    prices: &[u32],
+    prices: &Prices,
     mates: &[usize],
     seen: &mut [bool],
     tree: &mut Vec<Node>,
@@ -109,7 +110,7 @@ fn sweep(
 /// may stay alone. It goes over all nodes, since the prices may have changed.
 fn grow(
     graph: &Graph,
-    prices: &[u32],
+    prices: &Prices,
     mates: &[usize],
     seen: &mut [bool],
     tree: &mut Vec<Node>,
@@ -129,7 +130,7 @@ fn grow(
 {
     let mut next = 0;
     'nodes: while next < tree.len() {
-        if prices[mate_of(mates, tree, next)] == ALONE {
+        if prices.at(mate_of(mates, tree, next)) == ALONE {
             return Ok(Some(next));
         }
         if let Some(end) = sweep(graph, prices, mates, seen, tree, next)? {
@@ -174,7 +175,7 @@ fn take(mates: &mut [usize], x: usize, y: usize) -> usize
 /// given to the mate of the node before; else the tree has grown as far as it can.
 pub fn reach(
     graph: &Graph,
-    prices: &[u32],
+    prices: &Prices,
     mates: &mut [usize],
     seen: &mut [bool],
     tree: &mut Vec<Node>,

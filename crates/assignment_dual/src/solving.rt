@@ -4,14 +4,16 @@ ghost use Rattle.std.specs.Prelude.{◌≡◌, ◌≤◌, ◌<◌, ◌^◌, ◌+
 ghost use Rattle.std.specs.List.{All};
 ghost use Rattle.assignment_dual.specs.Pairings.{MISS, IsLeast, cost};
 ghost use Rattle.assignment_dual.specs.Problems.{Problem, IsProblem, rows_of, Proves, IsSolvedBy};
+ghost use Rattle.assignment_dual.specs.Search.{NoneSeen};
 ghost use Rattle.assignment_dual.specs.Vertices.{IsGraph};
 ghost use Rattle.assignment_dual.specs.Rests.{ShowsRest};
 
 use crate::build::graph_of;
 use crate::graph::Graph;
 use crate::place::settle_all;
-use crate::search::{ALONE, Node};
-use crate::tie::{first_pairing, sum_of};
+use crate::prices::{ALONE, Prices};
+use crate::search::Node;
+use crate::tie::first_pairing;
 use crate::{Costs, Solved};
 use std::alloc::Global;
 use trk_base::{NoMemory, Sequence};
@@ -64,14 +66,12 @@ fn track_prices(alloc: Global, prices: &[u32]) -> Result<Vec<i64>, NoMemory>
 }
 
 /// The cost that these prices prove: all of them, without what each track would pay alone.
-fn proven_cost(prices: &[u32], tracks: usize) -> i64
-    requires count { length prices.now < 2 ^ 40 }
-    requires small { (v : ℕ) → get_or prices.now v 0 ≤ MISS }
-    requires tracks { tracks ≤ length prices.now }
+fn proven_cost(prices: &Prices, tracks: usize) -> i64
+    requires { tracks < 2 ^ 32 }
     ensures { result ≡ pos (sum prices.now) -ℤ pos (MISS * tracks) }
 {
     let alone = u64::from(ALONE) * tracks as u64;
-    sum_of(prices) as i64 - alone as i64
+    prices.sum() as i64 - alone as i64
 }
 
 /// The answer: the vertices get their places, their prices are read, and then the first of the
@@ -79,7 +79,7 @@ fn proven_cost(prices: &[u32], tracks: usize) -> i64
 fn answer(
     alloc: Global,
     graph: &Graph,
-    prices: &mut [u32],
+    prices: &mut Prices,
     mates: &mut [usize],
     seen: &mut [bool],
     tree: &mut Vec<Node>,
@@ -87,9 +87,9 @@ fn answer(
 ) -> Result<Solved, NoMemory>
     requires graph { IsGraph graph.now (length prices.old) }
     requires plots { graph.now.plots ≤ length prices.old }
-    requires few { length prices.old < 2 ^ 40 }
     requires tracks { length prices.old < graph.now.plots + 2 ^ 32 }
     requires seen { length seen.old ≡ length prices.old }
+    requires none_seen { NoneSeen seen.old }
     requires count { length mates.old ≡ length prices.old }
     requires alone { (v : ℕ) → v < length prices.old → get_or mates.old v 0 ≡ v }
     requires out { (v : ℕ) → v < graph.now.plots → get_or prices.old v 0 ≡ 0 }
@@ -100,8 +100,8 @@ fn answer(
         → ShowsRest graph.now (length prices.old) p.tracks gone.old 0 (rows_of p) → IsSolvedBy p s.pairing s.u s.v s.cost) }
 {
     settle_all(graph, prices, mates, seen, tree)?;
-    let u = plot_prices(alloc, &prices[..graph.plots])?;
-    let v = track_prices(alloc, &prices[graph.plots..])?;
+    let u = plot_prices(alloc, &prices.as_slice()[..graph.plots])?;
+    let v = track_prices(alloc, &prices.as_slice()[graph.plots..])?;
     let cost = proven_cost(prices, prices.len() - graph.plots);
     let pairing = first_pairing(alloc, graph, prices, mates, seen, tree, gone)?;
     Ok(Solved {
@@ -124,7 +124,7 @@ pub fn solve(alloc: Global, costs: &Costs) -> Result<Solved, NoMemory>
     let plots = costs.plots as usize;
     let tracks = costs.tracks as usize;
     let graph = graph_of(alloc, costs)?;
-    let mut prices = first_prices(alloc, plots, plots + tracks)?;
+    let mut prices = Prices::of(first_prices(alloc, plots, plots + tracks)?);
     let mut mates = first_mates(alloc, plots + tracks)?;
     let mut seen = vec![in alloc; false; plots + tracks]?;
     let mut gone = vec![in alloc; false; plots + tracks]?;

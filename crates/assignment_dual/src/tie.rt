@@ -1,32 +1,21 @@
 //! Of all pairings of least cost the first one, plot by plot.
 
-ghost use Rattle.std.specs.Prelude.{◌≡◌, ◌≢◌, ◌≤◌, ◌<◌, ℕ, ◌+◌, ◌^◌, ◌∷◌, [], length, get_or, true, false, Bool, List, MatchBool, OnOk, IfOk, sum};
+ghost use Rattle.std.specs.Prelude.{◌≡◌, ◌≢◌, ◌≤◌, ◌<◌, ◌↔◌, ℕ, ◌+◌, ◌^◌, ◌∷◌, [], length, vec_len, get_or, true, false, Bool, List, IsTrue, MatchBool, OnOk, IfOk};
 ghost use Rattle.assignment_dual.specs.Pairings.{Row, MISS, IsLeast};
-ghost use Rattle.assignment_dual.specs.Vertices.{HasArc, IsGraph, IsPriced, AreResting};
+ghost use Rattle.assignment_dual.specs.Search.{NoneSeen};
+ghost use Rattle.assignment_dual.specs.Vertices.{HasArc, to_of, IsGraph, IsPriced, AreResting};
 ghost use Rattle.assignment_dual.specs.Rests.{ShowsRest};
 ghost use Rattle.assignment_dual.specs.Choices.{IsCandidate, AreCandidates, IsFixedBy};
 
-use crate::fix::{put_back, take_out};
+use crate::fix::{put_back, take_out, take_pair};
 use crate::graph::Graph;
-use crate::search::{ALONE, Node, slack};
+use crate::prices::{ALONE, Prices};
+use crate::search::{Node, slack};
 use std::alloc::Global;
 use trk_base::NoMemory;
 
-/// The sum of all prices.
-pub fn sum_of(prices: &[u32]) -> u64
-    requires count { length prices.now < 2 ^ 40 }
-    requires small { (v : ℕ) → get_or prices.now v 0 ≤ MISS }
-    ensures { result ≡ sum prices.now }
-{
-    let mut sum = 0;
-    for price in prices {
-        sum += u64::from(*price);
-    }
-    sum
-}
-
 /// Whether the arc k of p is tight, and its track isn't gone.
-fn is_candidate(graph: &Graph, prices: &[u32], gone: &[bool], p: usize, k: usize) -> bool
+fn is_candidate(graph: &Graph, prices: &Prices, gone: &[bool], p: usize, k: usize) -> bool
     requires graph { IsGraph graph.now (length prices.now) }
     requires priced { IsPriced graph.now (length prices.now) prices.now }
     requires count { length gone.now ≡ length prices.now }
@@ -41,7 +30,7 @@ fn is_candidate(graph: &Graph, prices: &[u32], gone: &[bool], p: usize, k: usize
 /// The arcs of the plot p that are tight, to tracks that aren't gone, in their order.
 fn candidates(
     graph: &Graph,
-    prices: &[u32],
+    prices: &Prices,
     gone: &[bool],
     p: usize,
     tight: &mut Vec<usize>,
@@ -61,11 +50,21 @@ fn candidates(
     Ok(())
 }
 
+/// Whether the first candidate of the plot p leads to the mate that it has.
+fn mate_is_first(graph: &Graph, mates: &[usize], tight: &[usize], p: usize) -> bool
+    requires arc { 0 < length tight.now → get_or tight.now 0 0 < vec_len graph.now.arcs }
+    requires p { p < length mates.now }
+    ensures { IsTrue result ↔ ((0 < length tight.now) × (to_of graph.now (get_or tight.now 0 0) ≡ get_or mates.now p 0)) }
+{
+    !tight.is_empty() && graph.arcs[tight[0]].to == mates[p]
+}
+
 /// Fixes the plot p by its entry in the first of the pairings that cost least: the track of the
-/// first candidate with which the least cost stays what it was, or none.
+/// first candidate with which the least cost stays what it was, or none. With the mate that p has
+/// it does, so no other place is searched where that is the first one.
 fn fix_plot(
     graph: &Graph,
-    prices: &mut [u32],
+    prices: &mut Prices,
     mates: &mut [usize],
     seen: &mut [bool],
     tree: &mut Vec<Node>,
@@ -76,24 +75,29 @@ fn fix_plot(
     requires graph { IsGraph graph.now (length prices.old) }
     requires resting { AreResting graph.now (length prices.old) prices.old mates.old gone.old }
     requires seen { length seen.old ≡ length prices.old }
+    requires none_seen { NoneSeen seen.old }
     requires count { length gone.old ≡ length prices.old }
-    requires few { length prices.old < 2 ^ 40 }
     requires tracks { length prices.old < graph.now.plots + 2 ^ 32 }
     requires plots { graph.now.plots ≤ length prices.old }
     requires p { p < graph.now.plots }
     requires here { get_or gone.old p false ≡ false }
     requires tight { AreCandidates graph.now prices.old gone.old p tight.now }
     ensures resting { OnOk result (AreResting graph.now (length prices.old) prices.new mates.new gone.new) }
+    ensures none_seen { OnOk result (NoneSeen seen.new) }
     ensures others { OnOk result ((v : ℕ) → v < graph.now.plots → v ≢ p → get_or gone.new v false ≡ get_or gone.old v false) }
     ensures fixed { IfOk result (λ x. (tracks : ℕ) (row : Row) (rows : List Row) → ShowsRest graph.now (length prices.old) tracks gone.old p (row ∷ rows)
         → IsFixedBy graph.now (length prices.old) gone.old gone.new p x tracks row rows) }
 {
-    let whole = sum_of(prices);
+    if mate_is_first(graph, mates, tight, p) {
+        let track = take_pair(prices, mates, gone, p);
+        return Ok(Some((track - graph.plots) as u32));
+    }
+    let whole = prices.sum();
     take_out(graph, prices, mates, seen, tree, gone, p)?;
     for k in tight {
         let arc = graph.arcs[*k];
         take_out(graph, prices, mates, seen, tree, gone, arc.to)?;
-        if u64::from(arc.cost + ALONE) + sum_of(prices) == whole {
+        if u64::from(arc.cost + ALONE) + prices.sum() == whole {
             return Ok(Some((arc.to - graph.plots) as u32));
         }
         put_back(graph, prices, mates, seen, tree, gone, arc.to)?;
@@ -105,7 +109,7 @@ fn fix_plot(
 pub fn first_pairing(
     alloc: Global,
     graph: &Graph,
-    prices: &mut [u32],
+    prices: &mut Prices,
     mates: &mut [usize],
     seen: &mut [bool],
     tree: &mut Vec<Node>,
@@ -114,8 +118,8 @@ pub fn first_pairing(
     requires graph { IsGraph graph.now (length prices.old) }
     requires resting { AreResting graph.now (length prices.old) prices.old mates.old gone.old }
     requires seen { length seen.old ≡ length prices.old }
+    requires none_seen { NoneSeen seen.old }
     requires count { length gone.old ≡ length prices.old }
-    requires few { length prices.old < 2 ^ 40 }
     requires tracks { length prices.old < graph.now.plots + 2 ^ 32 }
     requires plots { graph.now.plots ≤ length prices.old }
     requires here { (v : ℕ) → v < graph.now.plots → get_or gone.old v false ≡ false }

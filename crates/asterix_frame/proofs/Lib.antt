@@ -13,5 +13,6 @@ pub mod DataItems
 pub mod Placed
 pub mod DataRecordCodes
 pub mod Bodies
+pub mod Mapped
 pub mod Refusals
 pub mod Datagrams

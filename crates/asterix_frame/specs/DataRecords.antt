@@ -1,11 +1,13 @@
 -- Whole records by their category: their items, the time of day among them, and octets that begin no record.
-use Rattle.std.specs.Prelude.{◌≡◌, ℕ, ◌+◌, ◌*◌, ◌<◌, ◌≤◌, ◌==◌, if◌then◌else◌, List, [], ◌∷◌, ◌++◌, length, Option, Some, None, IfSome, IsSomeAnd}
-use Rattle.std.specs.Option.{option_and_then}
+use Rattle.std.specs.Prelude.{◌≡◌, ℕ, ◌+◌, ◌<◌, ◌≤◌, ◌==◌, if◌then◌else◌, List, [], ◌∷◌, ◌++◌, length, Option, Some, None, IfSome, IsSomeAnd}
+use Rattle.std.specs.Option.{option_and_then, unwrap_or}
 use Rattle.std.specs.List.{AllByRecursion}
 use Rattle.trk_base.specs.Numbers.{day}
 use Rattle.asterix_frame.specs.declared.cause.TheConstants.{FSPEC_END, SPARE_FRN, TIME_RANGE}
 use Rattle.asterix_frame.specs.declared.tables.Uap.{Uap}
+use Rattle.asterix_frame.specs.declared.tables.TheConstants.{SOURCE_FRN}
 use Rattle.asterix_frame.specs.Tables.{table_of, time_frn}
+use Rattle.asterix_frame.specs.Values.{three_octets, data_source}
 use Rattle.asterix_frame.specs.Presence.{IsField, EndsInField, HasSpare, present}
 use Rattle.asterix_frame.specs.Parts.{Part, Begins, numbers, octets_of}
 use Rattle.asterix_frame.specs.Items.{IsItem, BeginsNoItem, item_at}
@@ -18,10 +20,17 @@ abbrev pub item : ℕ → List Part → Option (List ℕ)
 item frn [] = None
 item frn (p ∷ ps) = if p.number + 1 == frn then Some p.octets else item frn ps
 
+-- its octets; those of an item that isn't there are none
+abbrev pub item_octets : ℕ → List Part → List ℕ
+item_octets frn items = unwrap_or (item frn items) []
+
+-- the data source identifier of a record
+abbrev pub source_of : List Part → Option (ℕ × ℕ)
+source_of items = data_source (item_octets SOURCE_FRN items)
+
 -- the time of day in three octets, in 1/128 s
 abbrev pub time_in : List ℕ → Option ℕ
-time_in (high ∷ middle ∷ low ∷ []) = Some (65536 * high + 256 * middle + low)
-time_in _ = None
+time_in octets = three_octets octets
 
 -- the time of day of a record
 abbrev pub time_of : Uap → List Part → Option ℕ

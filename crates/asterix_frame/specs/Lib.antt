@@ -3,6 +3,7 @@ pub mod Places
 pub mod Answers
 pub mod Groups
 pub mod Tables
+pub mod Values
 pub mod Presence
 pub mod Names
 pub mod Parts

@@ -8,7 +8,8 @@ ghost use Rattle.asterix_frame.specs.DataRecords.{DataRecord, IsDataRecord, reco
 ghost use Rattle.asterix_frame.specs.Bodies.{IsBody, BodyFault, IsFaultFrom, IsFaultOfBody, HasDataRecord, HaveDataRecords, HasRecords, AreSpans, IsSpan, IsLate, span_of, parts_at};
 
 use crate::cause::TIME_RANGE;
-use crate::tables::Uap;
+use crate::tables::{SOURCE_FRN, Uap};
+use crate::values::{data_source, three_octets};
 use crate::walk::{ItemSpans, ItemWalk, walk_items};
 use crate::{Block, BlocksError, Malformed};
 use std::alloc::Global;
@@ -95,20 +96,17 @@ fn span_of(frns: &[(u8, usize, usize)], frn: u8) -> Option<(usize, usize)>
     None
 }
 
-// The time of day in three octets.
+// The time of day in three octets, in 1/128 s.
 fn time_in(octets: &[u8]) -> Option<u32>
     ensures { result ≡ time_in octets.now }
 {
-    match octets {
-        [high, middle, low] => Some(u32::from_be_bytes([0, *high, *middle, *low])),
-        _ => None,
-    }
+    three_octets(octets)
 }
 
 impl ItemSpans {
     ghost use Rattle.std.specs.Prelude.{◌≡◌};
     ghost use Rattle.std.specs.Option.{option_map};
-    ghost use Rattle.asterix_frame.specs.DataRecords.{item, time_of};
+    ghost use Rattle.asterix_frame.specs.DataRecords.{item, item_octets, source_of, time_of};
     ghost use Rattle.asterix_frame.specs.Bodies.{AreSpans, parts_at};
 
     /// The octets of the item with that FRN, if the record has it. `body` is that of the record's block.
@@ -118,6 +116,22 @@ impl ItemSpans {
     {
         let (first, end) = span_of(&self.frns, frn)?;
         Some(&body[first..end])
+    }
+
+    /// The octets of the item with that FRN; those of an item that the record doesn't have are none. `body` is that of the record's block.
+    pub fn octets<'a>(&self, body: &'a [u8], frn: u8) -> &'a [u8]
+        requires { AreSpans body.now self.now }
+        ensures { result.now ≡ item_octets frn (parts_at body.now self.now.frns.items) }
+    {
+        self.item(body, frn).unwrap_or(&[])
+    }
+
+    /// The record's data source identifier, SAC and SIC, if it has one. `body` is that of the record's block.
+    pub fn data_source(&self, body: &[u8]) -> Option<(u8, u8)>
+        requires { AreSpans body.now self.now }
+        ensures { result ≡ source_of (parts_at body.now self.now.frns.items) }
+    {
+        data_source(self.octets(body, SOURCE_FRN))
     }
 
     /// The record's time of day in 1/128 s, if it has one. `body` is that of the record's block.

@@ -9,6 +9,7 @@ mod framing;
 mod items;
 mod presence;
 mod tables;
+mod values;
 mod walk;
 mod writer;
 
@@ -16,7 +17,8 @@ pub use block::{Block, BlocksError, Malformed};
 pub use body::{first_record, one_body, records};
 pub use datagram::one_datagram;
 pub use framing::{blocks, first_block, one_reading};
-pub use tables::{Compound, Item, Subfield, Uap};
+pub use tables::{Compound, Item, SOURCE_FRN, Subfield, Uap};
+pub use values::{data_source, has_bit, one_octet, three_octets, two_octets};
 pub use walk::{ItemSpans, ItemWalk, WalkError, one_walk, walk_items, walk_record};
 pub use writer::{BLOCK_LIMIT, BlockWriter, RECORD_LIMIT, one_setting};
 

@@ -72,6 +72,9 @@ impl Subfield {
     }
 }
 
+/// The FRN of the data source identifier in each category: I034/010, I048/010, I062/010, I063/010 and I065/010. It has two octets, SAC and SIC.
+pub const SOURCE_FRN: u8 = 1;
+
 /// The user application profile of a category: its items by FRN, from 1 on.
 #[derive(Clone, Copy, Debug, PartialEq, Eq)]
 pub enum Uap {

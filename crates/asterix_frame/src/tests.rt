@@ -223,6 +223,13 @@ fn reads_the_records_of_a_body(rt: HostRuntime) {
         [(1, 6, 8), (2, 8, 11)].as_slice()
     );
     assert_eq!(rt; found[2].item(block.body, 1), Some([0x01, 0x02].as_slice()));
+    assert_eq!(rt;
+        found[2].octets(block.body, 2),
+        [0x00, 0x00, 0x00].as_slice()
+    );
+    assert!(rt; found[2].octets(block.body, 3).is_empty());
+    assert_eq!(rt; found[1].data_source(block.body), None);
+    assert_eq!(rt; found[2].data_source(block.body), Some((0x01, 0x02)));
     assert_eq!(rt; found[2].next, 11);
     let second = first_record(rt.alloc(), Uap::Cat048, &block, 4).expect(&rt, "a record");
     assert!(rt; second.frns.is_empty());

@@ -5,14 +5,12 @@ ghost use Rattle.asterix_frame.specs.declared.tables.Uap.TheVariants.{Cat034};
 ghost use Rattle.asterix_frame.specs.Answers.{Reads, Refuses, IfMalformed};
 ghost use Rattle.asterix_frame.specs.DataRecords.{DataRecord};
 ghost use Rattle.asterix_frame.specs.Bodies.{IsBody, IsFaultOfBody, AreSpans, parts_at};
-ghost use Rattle.cat034_in.specs.Services.{octets, octet_of, number_of, source_of, service_of, services_of, IsTimed};
+ghost use Rattle.cat034_in.specs.Services.{service_of, services_of, IsTimed};
 
 use crate::Service;
-use asterix_frame::{Block, BlocksError, ItemSpans, Uap, records};
+use asterix_frame::{Block, BlocksError, ItemSpans, Uap, one_octet, records, two_octets};
 use std::alloc::Global;
 
-/// I034/010, data source identifier.
-const SOURCE: u8 = 1;
 /// I034/000, message type.
 const KIND: u8 = 2;
 /// I034/020, sector number.
@@ -50,48 +48,10 @@ fn service_of(body: &[u8], items: &ItemSpans) -> Service
     ensures { result ≡ service_of (parts_at body.now items.now.frns.items) }
 {
     Service {
-        source: source_of(octets(body, items, SOURCE)),
-        kind: octet_of(octets(body, items, KIND)),
+        source: items.data_source(body),
+        kind: one_octet(items.octets(body, KIND)),
         tod: items.time_of_day(Uap::Cat034, body),
-        sector: octet_of(octets(body, items, SECTOR)),
-        rotation: number_of(octets(body, items, ROTATION)),
-    }
-}
-
-// The octets of the item with that FRN, or none where the record doesn't have it.
-fn octets<'a>(body: &'a [u8], items: &ItemSpans, frn: u8) -> &'a [u8]
-    requires { AreSpans body.now items.now }
-    ensures { result.now ≡ octets frn (parts_at body.now items.now.frns.items) }
-{
-    items.item(body, frn).unwrap_or(&[])
-}
-
-// SAC and SIC.
-fn source_of(octets: &[u8]) -> Option<(u8, u8)>
-    ensures { result ≡ source_of octets.now }
-{
-    match octets {
-        [sac, sic] => Some((*sac, *sic)),
-        _ => None,
-    }
-}
-
-// The one octet of an item.
-fn octet_of(octets: &[u8]) -> Option<u8>
-    ensures { result ≡ octet_of octets.now }
-{
-    match octets {
-        [octet] => Some(*octet),
-        _ => None,
-    }
-}
-
-// The number in two octets.
-fn number_of(octets: &[u8]) -> Option<u16>
-    ensures { result ≡ number_of octets.now }
-{
-    match octets {
-        [high, low] => Some(u16::from_be_bytes([*high, *low])),
-        _ => None,
+        sector: one_octet(items.octets(body, SECTOR)),
+        rotation: two_octets(items.octets(body, ROTATION)),
     }
 }

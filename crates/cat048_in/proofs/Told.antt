@@ -1,4 +1,4 @@
--- The reports that spans of items tell are those of the records that lie there.
+-- The times of day of reports.
 use Rattle.std.proofs.Common.{◌≡◌, refl, ℕ, ◌<◌, List, [], ◌∷◌, Option, Some, None}
 use Rattle.std.specs.Prelude.{map, IfSome}
 use Rattle.std.proofs.lemmas.Bool.{lt-ltb}
@@ -6,21 +6,9 @@ use Rattle.trk_base.specs.Numbers.{day}
 use Rattle.asterix_frame.specs.declared.tables.Uap.TheVariants.{Cat048}
 use Rattle.asterix_frame.proofs.DataItems.{time_in_day}
 use Rattle.cat048_in.specs.Values.{below_day}
-use Rattle.asterix_frame.specs.declared.tables.Uap.{Uap}
-use Rattle.asterix_frame.specs.declared.walk.ItemSpans.{ItemSpans}
 use Rattle.asterix_frame.specs.DataRecords.{DataRecord, time_of}
-use Rattle.asterix_frame.specs.Bodies.{AreDataRecords, HaveDataRecords, parts_at}
-use Rattle.cat048_in.specs.declared.report.Report.{Report}
+use Rattle.asterix_frame.specs.Bodies.{AreDataRecords}
 use Rattle.cat048_in.specs.Reports.{report_of, reports_of}
-
-abbrev pub report_at : List ℕ → ItemSpans → Report
-report_at body found = report_of (parts_at body found.frns.items)
-
-pub told : (uap : Uap) (body : List ℕ) (from : ℕ) (records : List DataRecord) (found : List ItemSpans) → HaveDataRecords uap body from records found → map (report_at body) found ≡ reports_of records
-told uap body from [] [] h = refl
-told uap body from [] (f ∷ fs) h = absurd h
-told uap body from (r ∷ rs) [] h = absurd h
-told uap body from (r ∷ rs) (f ∷ fs) h = λ i. report_of (h.0.items i) ∷ told uap body f.next rs fs h.1 i
 
 in_day : (time : Option ℕ) → IfSome time (λ t. t < day) → below_day time ≡ time
 in_day None h = refl

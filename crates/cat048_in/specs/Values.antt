@@ -1,27 +1,8 @@
 -- What the octets of an item of a target report say (ASTERIX, Part 4, category 048). An item that isn't of its length says nothing.
-use Rattle.std.specs.Prelude.{ℕ, ◌+◌, ◌-◌, ◌*◌, ◌/◌, ◌%◌, ◌^◌, Bool, false, ◌==◌, nat_lt, ◌||◌, if◌then◌else◌, List, [], ◌∷◌, Option, Some, None, ℤ, pos, ◌-ℤ◌}
-use Rattle.std.specs.Int.{bit_at}
+use Rattle.std.specs.Prelude.{ℕ, ◌/◌, ◌%◌, ◌^◌, Bool, false, nat_lt, ◌||◌, if◌then◌else◌, List, [], ◌∷◌, Option, Some, None, ℤ}
+use Rattle.std.specs.Option.{option_map, option_and_then}
 use Rattle.trk_base.specs.Numbers.{day}
-
--- numbers of several octets, the highest first
-abbrev pub two_octets : ℕ → ℕ → ℕ
-two_octets high low = 256 * high + low
-
-abbrev pub three_octets : ℕ → ℕ → ℕ → ℕ
-three_octets high middle low = 256 * (256 * high + middle) + low
-
--- bit n of a number is set, counted as the standard does: bit 1 is the lowest
-abbrev pub has_bit : ℕ → ℕ → Bool
-has_bit number n = bit_at number (n - 1) == 1
-
--- a number of so many bits, read as two's complement
-abbrev pub signed : ℕ → ℕ → ℤ
-signed bits number = if nat_lt number (2 ^ (bits - 1)) then pos number else pos number -ℤ pos (2 ^ bits)
-
--- I048/010: SAC and SIC
-abbrev pub source_of : List ℕ → Option (ℕ × ℕ)
-source_of (sac ∷ sic ∷ []) = Some (sac, sic)
-source_of _ = None
+use Rattle.asterix_frame.specs.Values.{from_two, two_octets, three_octets, signed, has_bit}
 
 -- I048/140: a time of day, in 1/128 s, is below a day
 abbrev pub below_day : Option ℕ → Option ℕ
@@ -55,24 +36,25 @@ test_of _ = false
 
 -- I048/040: RHO and THETA
 abbrev pub polar_of : List ℕ → Option (ℕ × ℕ)
-polar_of (r1 ∷ r0 ∷ t1 ∷ t0 ∷ []) = Some (two_octets r1 r0, two_octets t1 t0)
+polar_of (r1 ∷ r0 ∷ t1 ∷ t0 ∷ []) = Some (from_two r1 r0, from_two t1 t0)
 polar_of _ = None
 
 -- Items 070 and 090 begin with V, bit 16, the value isn't validated, and G, bit 15, it is garbled.
 abbrev pub is_doubtful : ℕ → Bool
 is_doubtful number = has_bit number 16 || has_bit number 15
 
--- I048/070: the code's 12 bits, where V and G are 0
-abbrev pub code_of : List ℕ → Option ℕ
-code_of (high ∷ low ∷ []) = if is_doubtful (two_octets high low) then None else Some (two_octets high low % 2 ^ 12)
-code_of _ = None
+-- the number of such an item, where V and G are 0
+abbrev pub undoubted : List ℕ → Option ℕ
+undoubted octets = option_and_then (λ number. if is_doubtful number then None else Some number) (two_octets octets)
 
--- I048/090: the level's 14 bits in 1/4 FL, where V and G are 0
+-- I048/070: the code's 12 bits
+abbrev pub code_of : List ℕ → Option ℕ
+code_of octets = option_map (λ number. number % 2 ^ 12) (undoubted octets)
+
+-- I048/090: the level's 14 bits in 1/4 FL
 abbrev pub level_of : List ℕ → Option ℤ
-level_of (high ∷ low ∷ []) = if is_doubtful (two_octets high low) then None else Some (signed 14 (two_octets high low % 2 ^ 14))
-level_of _ = None
+level_of octets = option_map (λ number. signed 14 (number % 2 ^ 14)) (undoubted octets)
 
 -- I048/220: the address's 24 bits
 abbrev pub address_of : List ℕ → Option ℕ
-address_of (high ∷ middle ∷ low ∷ []) = Some (three_octets high middle low % 2 ^ 24)
-address_of _ = None
+address_of octets = option_map (λ number. number % 2 ^ 24) (three_octets octets)

@@ -5,18 +5,16 @@ ghost use Rattle.asterix_frame.specs.declared.tables.Uap.TheVariants.{Cat048};
 ghost use Rattle.asterix_frame.specs.Answers.{Reads, Refuses, IfMalformed};
 ghost use Rattle.asterix_frame.specs.DataRecords.{DataRecord, time_of};
 ghost use Rattle.asterix_frame.specs.Bodies.{IsBody, IsFaultOfBody, AreSpans, parts_at};
-ghost use Rattle.cat048_in.specs.Reports.{octets, report_of, reports_of};
+ghost use Rattle.cat048_in.specs.Reports.{report_of, reports_of};
 
 use crate::Report;
 use crate::values::{
-    address_of, below_day, code_of, kind_of, level_of, monitor_of, polar_of, simulated_of,
-    source_of, spi_of, test_of,
+    address_of, below_day, code_of, kind_of, level_of, monitor_of, polar_of, simulated_of, spi_of,
+    test_of,
 };
 use asterix_frame::{Block, BlocksError, ItemSpans, Uap, records};
 use std::alloc::Global;
 
-/// I048/010, data source identifier.
-const SOURCE: u8 = 1;
 /// I048/020, target report descriptor.
 const DESCRIPTOR: u8 = 3;
 /// I048/040, measured position in polar co-ordinates.
@@ -57,26 +55,18 @@ fn report_of(body: &[u8], items: &ItemSpans) -> Report
     requires { AreSpans body.now items.now }
     ensures { result ≡ report_of (parts_at body.now items.now.frns.items) }
 {
-    let descriptor = octets(body, items, DESCRIPTOR);
+    let descriptor = items.octets(body, DESCRIPTOR);
     Report {
-        source: source_of(octets(body, items, SOURCE)),
+        source: items.data_source(body),
         tod: below_day(items.time_of_day(Uap::Cat048, body)),
         kind: kind_of(descriptor),
         simulated: simulated_of(descriptor),
         test: test_of(descriptor),
         spi: spi_of(descriptor),
         monitor: monitor_of(descriptor),
-        polar: polar_of(octets(body, items, POSITION)),
-        code: code_of(octets(body, items, CODE)),
-        level: level_of(octets(body, items, LEVEL)),
-        address: address_of(octets(body, items, ADDRESS)),
+        polar: polar_of(items.octets(body, POSITION)),
+        code: code_of(items.octets(body, CODE)),
+        level: level_of(items.octets(body, LEVEL)),
+        address: address_of(items.octets(body, ADDRESS)),
     }
-}
-
-// The octets of the item with that FRN, or none where the record doesn't have it.
-fn octets<'a>(body: &'a [u8], items: &ItemSpans, frn: u8) -> &'a [u8]
-    requires { AreSpans body.now items.now }
-    ensures { result.now ≡ octets frn (parts_at body.now items.now.frns.items) }
-{
-    items.item(body, frn).unwrap_or(&[])
 }

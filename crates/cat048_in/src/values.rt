@@ -2,8 +2,9 @@
 ghost use Rattle.std.specs.Prelude.{◌≡◌, ◌≤◌};
 ghost use Rattle.std.specs.Option.{ForSome};
 ghost use Rattle.trk_base.specs.Ranges.{IsTimeOfDay, IsCode, IsLevel, IsAddress};
-ghost use Rattle.cat048_in.specs.Values.{has_bit, is_doubtful, source_of, below_day, kind_of, simulated_of, spi_of, monitor_of, test_of, polar_of, code_of, level_of, address_of};
+ghost use Rattle.cat048_in.specs.Values.{is_doubtful, undoubted, below_day, kind_of, simulated_of, spi_of, monitor_of, test_of, polar_of, code_of, level_of, address_of};
 
+use asterix_frame::{has_bit, three_octets, two_octets};
 use trk_base::DAY;
 
 // Bits of I048/020, as the standard counts them: 1 is the lowest of its octet.
@@ -22,15 +23,6 @@ const NOT_VALIDATED: u32 = 16;
 /// G: the value is garbled.
 const GARBLED: u32 = 15;
 
-// Whether bit n of a number is set. Bit 1 is the lowest.
-fn has_bit(number: u16, n: u32) -> bool
-    requires some { 1 ≤ n }
-    requires within { n ≤ 16 }
-    ensures { result ≡ has_bit number n }
-{
-    number >> (n - 1) & 1 == 1
-}
-
 // Whether a code or a level isn't validated or is garbled.
 fn is_doubtful(number: u16) -> bool
     ensures { result ≡ is_doubtful number }
@@ -38,13 +30,15 @@ fn is_doubtful(number: u16) -> bool
     has_bit(number, NOT_VALIDATED) || has_bit(number, GARBLED)
 }
 
-/// System area code and system identification code, of I048/010.
-pub(crate) fn source_of(octets: &[u8]) -> Option<(u8, u8)>
-    ensures { result ≡ source_of octets.now }
+// The number of a code or a level, unless it isn't validated or is garbled.
+fn undoubted(octets: &[u8]) -> Option<u16>
+    ensures { result ≡ undoubted octets.now }
 {
-    match octets {
-        [sac, sic] => Some((*sac, *sic)),
-        _ => None,
+    let number = two_octets(octets)?;
+    if is_doubtful(number) {
+        None
+    } else {
+        Some(number)
     }
 }
 
@@ -120,13 +114,7 @@ pub(crate) fn code_of(octets: &[u8]) -> Option<u16>
     ensures value { result ≡ code_of octets.now }
     ensures in_range { IsCode result }
 {
-    let [high, low] = octets else {
-        return None;
-    };
-    let number = u16::from_be_bytes([*high, *low]);
-    if is_doubtful(number) {
-        return None;
-    }
+    let number = undoubted(octets)?;
     Some(number % 0x1000)
 }
 
@@ -135,13 +123,7 @@ pub(crate) fn level_of(octets: &[u8]) -> Option<i16>
     ensures value { result ≡ level_of octets.now }
     ensures in_range { IsLevel result }
 {
-    let [high, low] = octets else {
-        return None;
-    };
-    let number = u16::from_be_bytes([*high, *low]);
-    if is_doubtful(number) {
-        return None;
-    }
+    let number = undoubted(octets)?;
     let level = (number % 0x4000) as i16;
     if level < 0x2000 {
         Some(level)
@@ -155,8 +137,5 @@ pub(crate) fn address_of(octets: &[u8]) -> Option<u32>
     ensures value { result ≡ address_of octets.now }
     ensures in_range { IsAddress result }
 {
-    match octets {
-        [high, middle, low] => Some(u32::from_be_bytes([0, *high, *middle, *low])),
-        _ => None,
-    }
+    three_octets(octets)
 }

@@ -1,5 +1,5 @@
-// Disjoint sets of plots. Below each plot stands another of its set, or itself where it is the
-// least one of the set.
+//! Disjoint sets of plots. Below each plot stands another of its set, or itself where it is the
+//! least one of the set.
 ghost use Rattle.std.specs.Prelude.{◌≡◌, ◌<◌, ◌≤◌, ℕ, All, IfOk, length, slice_index};
 ghost use Rattle.std.specs.List.Sorted.{IsNonDecreasingBy};
 ghost use Rattle.cluster_split.specs.Leasts.{Falls, IsLabelled, merged, HasLabels, AreLeasts};

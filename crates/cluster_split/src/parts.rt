@@ -1,4 +1,4 @@
-// Components, put together of the least plots that their plots are connected with.
+//! Components, put together of the least plots that their plots are connected with.
 ghost use Rattle.std.specs.Prelude.{◌≡◌, ◌<◌, ◌≤◌, ◌^◌, ◌∷◌, ◌++◌, ℕ, List, [], All, IfOk, OnOk, length, vec_len, slice_index_or, slice_set};
 ghost use Rattle.std.specs.List.Sorted.{IsNonDecreasingBy};
 ghost use Rattle.cluster_split.specs.Parts.{AreSettled, ArePlaces, AreGrouped, parts_of, no_part, with_plot, with_track};

@@ -1,3 +1,5 @@
+//! The connected parts of a gate graph: their plots, found by disjoint sets, and then their tracks.
+
 ghost use Rattle.std.specs.Prelude.{◌≡◌, ◌<◌, ℕ, List, All, IfOk};
 ghost use Rattle.std.specs.List.Sorted.{IsNonDecreasingBy, IsPermutation};
 ghost use Rattle.cluster_split.specs.Components.{AreComponents};

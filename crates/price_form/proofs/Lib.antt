@@ -8,3 +8,10 @@ pub mod ReadSteps
 pub mod Filed
 pub mod CertReading
 pub mod OneFile
+pub mod WrongNumbers
+pub mod Decided
+pub mod FineNumbers
+pub mod GoesOn
+pub mod FrontFaults
+pub mod OneFront
+pub mod Causes

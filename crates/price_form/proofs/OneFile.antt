@@ -13,7 +13,7 @@ use Rattle.price_form.proofs.Standing.{stands_head, stands_first, stands_second,
 use Rattle.price_form.proofs.Certified.{cert_is}
 use Rattle.price_form.proofs.Filed.{record_some}
 
-at_front : (xs piece rest : List ℕ) → xs ≡ piece ++ rest → Stands xs 0 piece
+pub at_front : (xs piece rest : List ℕ) → xs ≡ piece ++ rest → Stands xs 0 piece
 at_front xs piece rest e = record {
   inside = omega (arith, ap length e, length-append piece rest);
   same = λ k lt. let z : 0 + k ≡ k = omega arith in ap (λ j. get_or xs j 0) z ∙ ap (λ ys. get_or ys k 0) e ∙ get_or_append_left piece rest 0 k lt;

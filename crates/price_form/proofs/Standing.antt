@@ -6,7 +6,7 @@ use Rattle.std.specs.List.{flat_map, All, range_with_len}
 use Rattle.std.proofs.lemmas.Bool.{cases_eq, cases_lt, eq-eqb, ne_eqb}
 use Rattle.std.proofs.lemmas.Int.{to_z-of_z, of_z-to_z}
 use Rattle.std.proofs.lemmas.Nat.{from_be_bytes-to_be_bytes_2, from_be_bytes-to_be_bytes_4, from_be_bytes-to_be_bytes_8, be_bytes_2, be_bytes_4, be_bytes_8}
-use Rattle.std.proofs.lemmas.List.{get_or_append_left, get_or-append-add, same_lists}
+use Rattle.std.proofs.lemmas.List.{get_or_append_left, get_or-append-add, get_or_past, same_lists}
 use Rattle.std.proofs.lemmas.List.FromFn.{length-map-range_with_len, get_or-map-range_with_len}
 use Rattle.assignment_dual.specs.Problems.{Edge}
 use Rattle.price_form.specs.Octets.{price_octets, edge_octets, entry_octets, entry_number, entry_of, none_number, short_at, half_at, word_at, price_number_at, edge_numbers_at, entry_number_at, many_at}
@@ -57,6 +57,13 @@ stands_tail {xs} {bs} {p} {q} {b} e h = stands_second (b ∷ []) bs e h
 
 abbrev pub AreOctets : List ℕ → Type 0
 AreOctets xs = (i : ℕ) → get_or xs i 0 < 256
+
+pub are_octets : (xs : List ℕ) → All (λ octet. octet < 256) xs → AreOctets xs
+are_octets xs all i =
+    elim (cases_lt i (length xs)) [
+      | inl lt ↦ all i 0 lt
+      | inr past ↦ omega (arith, get_or_past xs i 0 past)
+    ]
 
 -- Numbers
 
@@ -188,7 +195,7 @@ pub length-many : {X : Type 0} (r : List ℕ → ℕ → X) (s : ℕ) (xs : List
 unfolding many_at
 length-many r s xs p n = length-map-range_with_len (λ i. r xs (p + i * s)) 0 n
 
-get-many : {X : Type 0} (r : List ℕ → ℕ → X) (s : ℕ) (xs : List ℕ) (p n i : ℕ) (d : X) → i < n → get_or (many_at r s xs p n) i d ≡ r xs (p + i * s)
+pub get-many : {X : Type 0} (r : List ℕ → ℕ → X) (s : ℕ) (xs : List ℕ) (p n i : ℕ) (d : X) → i < n → get_or (many_at r s xs p n) i d ≡ r xs (p + i * s)
 unfolding many_at
 get-many r s xs p n i d lt = get_or-map-range_with_len (λ k. r xs (p + k * s)) 0 n i i d lt (omega arith)
 

@@ -4,3 +4,4 @@ pub mod Octets
 pub mod Spelling
 pub mod Files
 pub mod Reading
+pub mod Fronts

@@ -14,6 +14,7 @@
 
 mod certs;
 mod checking;
+mod fronts;
 mod numbers;
 mod pairs;
 mod reading;
@@ -23,5 +24,6 @@ mod writing;
 
 pub use certs::{Cert, PriceRecord, PricesError};
 pub use checking::check;
+pub use fronts::{front_fault, front_fault_stays, one_front_fault};
 pub use reading::{one_price_file, read_prices};
 pub use writing::write_cert;

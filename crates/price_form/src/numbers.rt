@@ -9,7 +9,8 @@ use trk_base::NoMemory;
 /// What stands for none among the places of tracks.
 const NONE: u32 = u32::MAX;
 
-fn short_at(octets: &[u8], at: usize) -> u16
+/// The number of two octets at a place.
+pub(crate) fn short_at(octets: &[u8], at: usize) -> u16
     requires { at + 2 ≤ length octets.now }
     ensures { result ≡ short_at octets.now at }
 {
@@ -75,6 +76,18 @@ pub(crate) fn prices_at(
     Ok(prices)
 }
 
+/// The plot, the track and the cost of the edge at a place.
+pub(crate) fn edge_at(octets: &[u8], at: usize) -> (u32, u32, u16)
+    requires { at + 10 ≤ length octets.now }
+    ensures { result ≡ edge_numbers_at octets.now at }
+{
+    (
+        half_at(octets, at),
+        half_at(octets, at + 4),
+        short_at(octets, at + 8),
+    )
+}
+
 /// The edges from a place on.
 pub(crate) fn edges_at(
     alloc: Global,
@@ -87,12 +100,7 @@ pub(crate) fn edges_at(
 {
     let mut edges = Vec::with_capacity(alloc, count)?;
     for i in 0..count {
-        let edge = at + i * 10;
-        edges.push((
-            half_at(octets, edge),
-            half_at(octets, edge + 4),
-            short_at(octets, edge + 8),
-        ))?;
+        edges.push(edge_at(octets, at + i * 10))?;
     }
     Ok(edges)
 }

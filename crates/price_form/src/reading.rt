@@ -1,4 +1,4 @@
-ghost use Rattle.std.specs.Prelude.{◌≡◌, ◌<◌, ◌≤◌, ◌-◌, ◌↔◌, ◌^◌, ℕ, List, IsTrue, MatchOption, MatchResult, IfSome, IfOk, All, length};
+ghost use Rattle.std.specs.Prelude.{◌≡◌, ◌<◌, ◌≤◌, ◌-◌, ◌↔◌, ◌⊎◌, ◌^◌, ℕ, List, IsTrue, MatchOption, MatchResult, IfSome, IfOk, All, length};
 ghost use Rattle.assignment_dual.specs.Problems.{IsProblem};
 ghost use Rattle.price_form.specs.declared.certs.PriceRecord.{PriceRecord};
 ghost use Rattle.assignment_dual.specs.Problems.{EdgeBefore, edge_at};
@@ -12,17 +12,17 @@ use std::alloc::Global;
 use trk_base::{NoMemory, Sequence};
 
 /// What a price file begins with: `MRP1`.
-const MAGIC: [u8; 4] = [0x4D, 0x52, 0x50, 0x31];
+pub(crate) const MAGIC: [u8; 4] = [0x4D, 0x52, 0x50, 0x31];
 
 /// The greatest cost of an edge.
-const MOST: u16 = 4_096;
+pub(crate) const MOST: u16 = 4_096;
 
 /// How many plots, tracks and edges a certificate has.
 #[derive(Clone, Copy)]
-struct Counts {
-    plots: u32,
-    tracks: u32,
-    edges: u32,
+pub(crate) struct Counts {
+    pub(crate) plots: u32,
+    pub(crate) tracks: u32,
+    pub(crate) edges: u32,
 }
 
 /// The counts of the certificate at a place, if they can be those of one and its octets aren't cut
@@ -69,7 +69,7 @@ impl Counts {
 }
 
 /// Whether an edge stands before another, by its plot, then by its track.
-fn is_before(edge: (u32, u32, u16), other: (u32, u32, u16)) -> bool
+pub(crate) fn is_before(edge: (u32, u32, u16), other: (u32, u32, u16)) -> bool
     ensures { IsTrue result ↔ EdgeBefore edge other }
 {
     edge.0 < other.0 || (edge.0 == other.0 && edge.1 < other.1)
@@ -161,7 +161,7 @@ fn cert_at(alloc: Global, octets: &[u8], at: usize) -> Result<Option<(Cert, usiz
 }
 
 /// The record at a place, if there is one, and where it ends.
-fn record_at(
+pub(crate) fn record_at(
     alloc: Global,
     octets: &[u8],
     at: usize,
@@ -213,8 +213,9 @@ pub fn read_prices(alloc: Global, bytes: &[u8]) -> Result<Vec<PriceRecord>, Pric
     Ok(records)
 }
 
-/// Octets are a price file in one way at most, or have one fault.
+/// Each list of octets is a price file, in one way, or has one fault.
 pub fn one_price_file()
+    ensures some { (bytes : List ℕ) → All (λ octet. octet < 256) bytes → ((records : List PriceRecord) × ArePrices bytes records) ⊎ ((offset : ℕ) × IsFault bytes offset) }
     ensures same_records { (bytes : List ℕ) (a b : List PriceRecord) → ArePrices bytes a → ArePrices bytes b → a ≡ b }
     ensures same_fault { (bytes : List ℕ) (p q : ℕ) → IsFault bytes p → IsFault bytes q → p ≡ q }
     ensures not_both { (bytes : List ℕ) (a : List PriceRecord) (p : ℕ) → ArePrices bytes a → IsFault bytes p → ⊥ }

@@ -9,10 +9,10 @@ use Rattle.toml.specs.Data.{Members, as_table}
 use Rattle.toml.specs.View.{view, items_view}
 use Rattle.toml.specs.declared.value.Value.{Value}
 use Rattle.plot_geometry.specs.declared.radars.RadarSettings.{RadarSettings}
-use Rattle.settings_text.specs.declared.keys.TheConstants.{RADAR_KEYS}
+use Rattle.settings_text.specs.Keys.{radar_keys}
 use Rattle.settings_text.specs.declared.faults.SettingsFault.{SettingsFault}
 use Rattle.settings_text.specs.declared.faults.SettingsFault.TheVariants.{Range}
-use Rattle.settings_text.specs.Keys.{path}
+use Rattle.settings_text.specs.Tables.{path}
 use Rattle.settings_text.specs.Numbers.{radar_numbers}
 use Rattle.settings_text.specs.Documents.{IsRadar, entries, tables_of, entry_faults, numbered_faults, entries_faults}
 use Rattle.settings_text.specs.declared.faults.SettingsError.{SettingsError}
@@ -27,7 +27,7 @@ first_in_front fault xs ys first = (first.0 ++ ys, ap (λ zs. zs ++ ys) first.1)
 -- nothing is wrong with an entry that gives a radar its numbers
 no_entry_faults : (radar : ℕ) (entry : Option Members) (settings : RadarSettings) → IsRadar entry settings → entry_faults radar entry ≡ []
 no_entry_faults radar None settings is = absurd is
-no_entry_faults radar (Some table) settings is = no_faults (Some radar) table RADAR_KEYS (radar_numbers settings) is
+no_entry_faults radar (Some table) settings is = no_faults (Some radar) table radar_keys (radar_numbers settings) is
 
 pub no_numbered_faults : (first : ℕ) (entries : List (Option Members)) (radars : List RadarSettings) → AllZip IsRadar entries radars → numbered_faults first entries ≡ []
 no_numbered_faults first [] radars each = refl

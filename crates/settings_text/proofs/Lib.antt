@@ -5,4 +5,5 @@ pub mod Ranges
 pub mod Reading
 pub mod Repeating
 pub mod Right
+pub mod Rules
 pub mod SomeAnswer

@@ -4,7 +4,7 @@ use Rattle.std.specs.List.{list_all}
 use Rattle.std.specs.Map.{keys_of}
 use Rattle.toml.proofs.Views.{Entry}
 use Rattle.toml.specs.View.{members_view}
-use Rattle.settings_text.specs.Keys.{names}
+use Rattle.settings_text.specs.Tables.{names}
 
 pub all_names : (test : List ℕ → Bool) (entries : List Entry) → list_all (λ (name : String Global). test (string_bytes name)) (keys_of entries) ≡ list_all test (names (members_view entries))
 all_names test [] = refl

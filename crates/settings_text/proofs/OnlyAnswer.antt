@@ -11,13 +11,12 @@ use Rattle.track_life.specs.declared.settings.LifeSettings.{LifeSettings}
 use Rattle.plot_geometry.specs.declared.radars.RadarSettings.{RadarSettings}
 use Rattle.admission_log.specs.declared.settings.Settings.{Settings}
 use Rattle.admission_log.specs.Sources.{HasSource, HaveOwnSources}
-use Rattle.settings_text.specs.declared.keys.KeyRule.{KeyRule}
-use Rattle.settings_text.specs.declared.keys.TheConstants.{SYSTEM_KEYS, RADAR_KEYS}
+use Rattle.settings_text.specs.Keys.{Key, system_keys, radar_keys}
 use Rattle.settings_text.specs.declared.faults.SettingsFault.{SettingsFault}
 use Rattle.settings_text.specs.declared.faults.SettingsFault.TheVariants.{Duplicate}
 use Rattle.settings_text.specs.declared.faults.SettingsError.{SettingsError}
 use Rattle.settings_text.specs.declared.faults.SettingsError.TheVariants.{Fault, NoMemory}
-use Rattle.settings_text.specs.Keys.{Gives}
+use Rattle.settings_text.specs.Tables.{Gives}
 use Rattle.settings_text.specs.Numbers.{system_numbers, radar_numbers}
 use Rattle.settings_text.specs.Documents.{number_faults, IsRadar, SystemGives, AreRadars}
 use Rattle.settings_text.specs.Answers.{IsDocument, IsSettings, IsFaultOf, wrong_number, unknown_key, duplicate, IsFault, no_document, in_document, IsAnswer, Repeats, HasDuplicate, IsFirst, OnFault, Agrees}
@@ -131,25 +130,25 @@ same_settings s t h radars =
 ok_same : {A B : Type 0} (x y : A) → ◌≡◌ {A = Result A B} (Ok x) (Ok y) → x ≡ y
 ok_same x y e = search rules
 
-same_numbers : (table : Members) (rules : List KeyRule) (numbers others : List ℤ) → Gives table rules numbers → Gives table rules others → numbers ≡ others
+same_numbers : (table : Members) (keys : List Key) (numbers others : List ℤ) → Gives table keys numbers → Gives table keys others → numbers ≡ others
 same_numbers table [] [] [] g h = refl
 same_numbers table [] [] (m ∷ others) g h = absurd h
 same_numbers table [] (n ∷ numbers) others g h = absurd g
-same_numbers table (rule ∷ rules) [] others g h = absurd g
-same_numbers table (rule ∷ rules) (n ∷ numbers) [] g h = absurd h
-same_numbers table (rule ∷ rules) (n ∷ numbers) (m ∷ others) g h =
+same_numbers table (key ∷ keys) [] others g h = absurd g
+same_numbers table (key ∷ keys) (n ∷ numbers) [] g h = absurd h
+same_numbers table (key ∷ keys) (n ∷ numbers) (m ∷ others) g h =
     let first = ok_same n m (sym g.0 ∙ h.0) in
-    let rest = same_numbers table rules numbers others g.1 h.1 in
+    let rest = same_numbers table keys numbers others g.1 h.1 in
     (λ i. first i ∷ rest i)
 
 same_system : (document : Members) (numbers others : List ℤ) → SystemGives document numbers → SystemGives document others → numbers ≡ others
 same_system document numbers others g h =
     let table : g.table ≡ h.table = same_Some _ _ (same_Some _ _ (sym g.stands ∙ h.stands)) in
-    same_numbers h.table SYSTEM_KEYS numbers others (subst (λ t. Gives t SYSTEM_KEYS numbers) table g.gives) h.gives
+    same_numbers h.table system_keys numbers others (subst (λ t. Gives t system_keys numbers) table g.gives) h.gives
 
 one_radar : (entry : Option Members) (r s : RadarSettings) → IsRadar entry r → IsRadar entry s → r ≡ s
 one_radar None r s g h = absurd g
-one_radar (Some table) r s g h = same_radar r s (same_numbers table RADAR_KEYS (radar_numbers r) (radar_numbers s) g h)
+one_radar (Some table) r s g h = same_radar r s (same_numbers table radar_keys (radar_numbers r) (radar_numbers s) g h)
 
 same_each : (entries : List (Option Members)) (radars others : List RadarSettings) → AllZip IsRadar entries radars → AllZip IsRadar entries others → radars ≡ others
 same_each [] [] [] g h = refl

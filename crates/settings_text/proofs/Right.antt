@@ -8,7 +8,7 @@ use Rattle.std.proofs.lemmas.Slice.Zip.{AllZip-long}
 use Rattle.toml.specs.Data.{Members}
 use Rattle.plot_geometry.specs.declared.radars.RadarSettings.{RadarSettings}
 use Rattle.admission_log.specs.declared.settings.Settings.{Settings}
-use Rattle.settings_text.specs.declared.keys.TheConstants.{SYSTEM_KEYS}
+use Rattle.settings_text.specs.Keys.{system_keys}
 use Rattle.settings_text.specs.declared.faults.SettingsError.{SettingsError}
 use Rattle.settings_text.specs.declared.faults.SettingsError.TheVariants.{Fault, NoMemory}
 use Rattle.settings_text.specs.Documents.{system_of, radars_of, system_faults, radars_faults, entries_faults, number_faults, IsRadar, SystemGives, AreRadars}
@@ -17,7 +17,7 @@ use Rattle.settings_text.proofs.Reading.{no_faults}
 use Rattle.settings_text.proofs.Entries.{no_numbered_faults}
 
 pub system_right : (document : Members) (numbers : List ℤ) → SystemGives document numbers → system_faults (system_of document) ≡ []
-system_right document numbers given = rw given.stands (no_faults None given.table SYSTEM_KEYS numbers given.gives)
+system_right document numbers given = rw given.stands (no_faults None given.table system_keys numbers given.gives)
 
 pub entries_right : (entries : List (Option Members)) (radars : List RadarSettings) → AllZip IsRadar entries radars → 1 ≤ length radars → length radars ≤ 32 → entries_faults entries ≡ []
 entries_right [] [] each some most = absurd (omega arith)

@@ -14,11 +14,10 @@ use Rattle.plot_geometry.specs.declared.radars.RadarSettings.{RadarSettings}
 use Rattle.admission_log.specs.declared.settings.Settings.{Settings}
 use Rattle.admission_log.specs.Sources.{HaveOwnSources, radar_of}
 use Rattle.admission_log.proofs.Radars.{found_within}
-use Rattle.settings_text.specs.declared.keys.KeyRule.{KeyRule}
-use Rattle.settings_text.specs.declared.keys.TheConstants.{SYSTEM_KEYS, RADAR_KEYS}
+use Rattle.settings_text.specs.Keys.{Key, system_keys, radar_keys}
 use Rattle.settings_text.specs.declared.faults.SettingsFault.{SettingsFault}
 use Rattle.settings_text.specs.declared.faults.SettingsFault.TheVariants.{Syntax, Unknown, Duplicate}
-use Rattle.settings_text.specs.Keys.{Flaw, number_at, Gives, faults, is_within, AreWithin}
+use Rattle.settings_text.specs.Tables.{Flaw, number_at, Gives, faults, is_within, AreWithin}
 use Rattle.settings_text.specs.Numbers.{system_numbers, radar_numbers}
 use Rattle.settings_text.specs.Documents.{system_of, radars_of, system_faults, numbered_faults, entries_faults, radars_faults, number_faults, is_known, IsRadar, SystemGives, AreRadars}
 use Rattle.settings_text.specs.Answers.{IsDocument, IsSettings, IsFaultOf, wrong_number, unknown_key, duplicate, no_document, in_document, IsAnswer, Repeats}
@@ -31,17 +30,17 @@ empty_parts [] ys e = (refl, e)
 empty_parts (x ∷ xs) ys e = absurd (omega (arith, ap length e))
 
 -- the numbers of keys with which nothing is wrong
-abbrev Given : Members → List KeyRule → Type 0
+abbrev Given : Members → List Key → Type 0
 Given table keys = (numbers : List ℤ) × Gives table keys numbers
 
-one_given : (radar : Option ℕ) (table : Members) (rule : KeyRule) (others : List KeyRule) (found : Result ℤ Flaw) → number_at table rule ≡ found → faults radar table (rule ∷ others) ≡ []
-    → (faults radar table others ≡ [] → Given table others) → Given table (rule ∷ others)
-one_given radar table rule others (Ok number) is none rest = (let more = rest (rw is at none) in (number ∷ more.0, (is, more.1)))
-one_given radar table rule others (Err flaw) is none rest = absurd (omega (arith, ap length (rw is at none)))
+one_given : (radar : Option ℕ) (table : Members) (key : Key) (others : List Key) (found : Result ℤ Flaw) → number_at table key ≡ found → faults radar table (key ∷ others) ≡ []
+    → (faults radar table others ≡ [] → Given table others) → Given table (key ∷ others)
+one_given radar table key others (Ok number) is none rest = (let more = rest (rw is at none) in (number ∷ more.0, (is, more.1)))
+one_given radar table key others (Err flaw) is none rest = absurd (omega (arith, ap length (rw is at none)))
 
-given : (radar : Option ℕ) (table : Members) (keys : List KeyRule) → faults radar table keys ≡ [] → Given table keys
+given : (radar : Option ℕ) (table : Members) (keys : List Key) → faults radar table keys ≡ [] → Given table keys
 given radar table [] none = ([], tt)
-given radar table (rule ∷ others) none = one_given radar table rule others (number_at table rule) refl none (given radar table others)
+given radar table (key ∷ others) none = one_given radar table key others (number_at table key) refl none (given radar table others)
 
 -- a number that isn't below 0
 natural : (z : ℤ) → pos 0 ≤ℤ z → (n : ℕ) × (pos n ≡ z)
@@ -49,21 +48,21 @@ natural (pos n) h = (n, refl)
 natural (negsuc n) h = absurd (omega (arith, ints))
 
 -- the radar of twelve numbers in range
-some_radar : (numbers : List ℤ) → AreWithin RADAR_KEYS numbers → (radar : RadarSettings) × (radar_numbers radar ≡ numbers)
+some_radar : (numbers : List ℤ) → AreWithin radar_keys numbers → (radar : RadarSettings) × (radar_numbers radar ≡ numbers)
 some_radar numbers within =
-    let long = AllZip-long (λ rule number. is_within rule number ≡ true) RADAR_KEYS numbers within in
-    let sac = range_at RADAR_KEYS numbers 0 blank within (lit< tt) in
-    let sic = range_at RADAR_KEYS numbers 1 blank within (lit< tt) in
-    let x = range_at RADAR_KEYS numbers 2 blank within (lit< tt) in
-    let y = range_at RADAR_KEYS numbers 3 blank within (lit< tt) in
-    let height = range_at RADAR_KEYS numbers 4 blank within (lit< tt) in
-    let north = range_at RADAR_KEYS numbers 5 blank within (lit< tt) in
-    let range_gain = range_at RADAR_KEYS numbers 6 blank within (lit< tt) in
-    let range_bias = range_at RADAR_KEYS numbers 7 blank within (lit< tt) in
-    let azimuth_bias = range_at RADAR_KEYS numbers 8 blank within (lit< tt) in
-    let time_bias = range_at RADAR_KEYS numbers 9 blank within (lit< tt) in
-    let range_sigma = range_at RADAR_KEYS numbers 10 blank within (lit< tt) in
-    let azimuth_sigma = range_at RADAR_KEYS numbers 11 blank within (lit< tt) in
+    let long = AllZip-long (λ key number. is_within key number ≡ true) radar_keys numbers within in
+    let sac = range_at radar_keys numbers 0 blank within (lit< tt) in
+    let sic = range_at radar_keys numbers 1 blank within (lit< tt) in
+    let x = range_at radar_keys numbers 2 blank within (lit< tt) in
+    let y = range_at radar_keys numbers 3 blank within (lit< tt) in
+    let height = range_at radar_keys numbers 4 blank within (lit< tt) in
+    let north = range_at radar_keys numbers 5 blank within (lit< tt) in
+    let range_gain = range_at radar_keys numbers 6 blank within (lit< tt) in
+    let range_bias = range_at radar_keys numbers 7 blank within (lit< tt) in
+    let azimuth_bias = range_at radar_keys numbers 8 blank within (lit< tt) in
+    let time_bias = range_at radar_keys numbers 9 blank within (lit< tt) in
+    let range_sigma = range_at radar_keys numbers 10 blank within (lit< tt) in
+    let azimuth_sigma = range_at radar_keys numbers 11 blank within (lit< tt) in
     let a = natural _ sac.0 in
     let b = natural _ sic.0 in
     let n = natural _ north.0 in
@@ -98,17 +97,17 @@ some_radar numbers within =
     )
 
 -- the settings of seven numbers in range and of radars
-some_settings : (numbers : List ℤ) (radars : List RadarSettings) → AreWithin SYSTEM_KEYS numbers → 1 ≤ length radars → length radars ≤ 32 → HaveOwnSources radars
+some_settings : (numbers : List ℤ) (radars : List RadarSettings) → AreWithin system_keys numbers → 1 ≤ length radars → length radars ≤ 32 → HaveOwnSources radars
     → (settings : Settings) × (system_numbers settings ≡ numbers) × (settings.radars ≡ radars)
 some_settings numbers radars within some most own =
-    let long = AllZip-long (λ rule number. is_within rule number ≡ true) SYSTEM_KEYS numbers within in
-    let window = range_at SYSTEM_KEYS numbers 3 blank within (lit< tt) in
-    let hits = range_at SYSTEM_KEYS numbers 4 blank within (lit< tt) in
-    let tentative = range_at SYSTEM_KEYS numbers 5 blank within (lit< tt) in
-    let confirmed = range_at SYSTEM_KEYS numbers 6 blank within (lit< tt) in
-    let a = natural (get_or numbers 0 (pos 0)) (range_at SYSTEM_KEYS numbers 0 blank within (lit< tt)).0 in
-    let b = natural (get_or numbers 1 (pos 0)) (range_at SYSTEM_KEYS numbers 1 blank within (lit< tt)).0 in
-    let s = natural (get_or numbers 2 (pos 0)) (range_at SYSTEM_KEYS numbers 2 blank within (lit< tt)).0 in
+    let long = AllZip-long (λ key number. is_within key number ≡ true) system_keys numbers within in
+    let window = range_at system_keys numbers 3 blank within (lit< tt) in
+    let hits = range_at system_keys numbers 4 blank within (lit< tt) in
+    let tentative = range_at system_keys numbers 5 blank within (lit< tt) in
+    let confirmed = range_at system_keys numbers 6 blank within (lit< tt) in
+    let a = natural (get_or numbers 0 (pos 0)) (range_at system_keys numbers 0 blank within (lit< tt)).0 in
+    let b = natural (get_or numbers 1 (pos 0)) (range_at system_keys numbers 1 blank within (lit< tt)).0 in
+    let s = natural (get_or numbers 2 (pos 0)) (range_at system_keys numbers 2 blank within (lit< tt)).0 in
     let w = natural (get_or numbers 3 (pos 0)) (omega (arith, ints)) in
     let h = natural (get_or numbers 4 (pos 0)) (omega (arith, ints)) in
     let t = natural (get_or numbers 5 (pos 0)) (omega (arith, ints)) in
@@ -140,11 +139,11 @@ some_radars : (first : ℕ) (entries : List (Option Members)) → numbered_fault
 some_radars first [] none = ([], tt)
 some_radars first (None ∷ entries) none = absurd (omega (arith, ap length none))
 some_radars first (Some table ∷ entries) none =
-    let parts = empty_parts (faults (Some first) table RADAR_KEYS) (numbered_faults (first + 1) entries) none in
-    let numbers = given (Some first) table RADAR_KEYS parts.0 in
-    let radar = some_radar numbers.0 (gives_within table RADAR_KEYS numbers.0 refl numbers.1) in
+    let parts = empty_parts (faults (Some first) table radar_keys) (numbered_faults (first + 1) entries) none in
+    let numbers = given (Some first) table radar_keys parts.0 in
+    let radar = some_radar numbers.0 (gives_within table radar_keys numbers.0 refl numbers.1) in
     let others = some_radars (first + 1) entries parts.1 in
-    (radar.0 ∷ others.0, (subst (Gives table RADAR_KEYS) (sym radar.1) numbers.1, others.1))
+    (radar.0 ∷ others.0, (subst (Gives table radar_keys) (sym radar.1) numbers.1, others.1))
 
 record Radars (document : Members) : Type 0 where
   pub radars : List RadarSettings
@@ -179,7 +178,7 @@ document_system : (document : Members) (at : Option (Option Members)) → system
 document_system document None is none = absurd (omega (arith, ap length none))
 document_system document (Some None) is none = absurd (omega (arith, ap length none))
 document_system document (Some (Some table)) is none =
-    let numbers = given None table SYSTEM_KEYS none in
+    let numbers = given None table system_keys none in
     (numbers.0, record { table = table; stands = is; gives = numbers.1 })
 
 -- some radar repeats an earlier one, or none of the first does
@@ -217,7 +216,7 @@ last_answer document right known system found =
     elim (repeated_or_own found.radars (length found.radars) (omega arith)) [
       | inl repeated ↦ (Err (Duplicate repeated.0 repeated.1), duplicate right known repeated.0 repeated.1 (record { radars = found.radars; are_radars = found.are; repeats = repeated.2 }) refl)
       | inr own ↦ (let all : HaveOwnSources found.radars = rw (take_all (length found.radars) found.radars (omega arith)) at own in
-          let settings = some_settings system.0 found.radars (gives_within system.1.table SYSTEM_KEYS system.0 refl system.1.gives) found.some found.most all in (
+          let settings = some_settings system.0 found.radars (gives_within system.1.table system_keys system.0 refl system.1.gives) found.some found.most all in (
             Ok settings.0,
             record {
               system = subst (SystemGives document) (sym settings.1) system.1;

@@ -6,11 +6,10 @@ use Rattle.toml.specs.Data.{Data, Items, no_items, item, Members, get_member, as
 use Rattle.toml.specs.View.{view}
 use Rattle.toml.specs.declared.value.Value.{Value}
 use Rattle.plot_geometry.specs.declared.radars.RadarSettings.{RadarSettings}
-use Rattle.settings_text.specs.declared.keys.TheConstants.{SYSTEM_KEYS, RADAR_KEYS}
-use Rattle.settings_text.specs.declared.keys.KeyRule.{KeyRule}
 use Rattle.settings_text.specs.declared.faults.SettingsFault.{SettingsFault}
 use Rattle.settings_text.specs.declared.faults.SettingsFault.TheVariants.{Missing, Kind, Range}
-use Rattle.settings_text.specs.Keys.{path, Gives, faults, has_only, names}
+use Rattle.settings_text.specs.Keys.{Key, system_keys, radar_keys}
+use Rattle.settings_text.specs.Tables.{path, Gives, faults, has_only, names}
 use Rattle.settings_text.specs.Numbers.{radar_numbers}
 
 -- what stands at `system`: nothing, something that is no table, or a table
@@ -38,12 +37,12 @@ tables_of = map (λ value. as_table (view value))
 abbrev pub system_faults : Option (Option Members) → List SettingsFault
 system_faults None = Missing (path None 1) ∷ []
 system_faults (Some None) = Kind (path None 1) ∷ []
-system_faults (Some (Some table)) = faults None table SYSTEM_KEYS
+system_faults (Some (Some table)) = faults None table system_keys
 
 -- what is wrong with the numbers of one radar: keys 8 to 19
 abbrev pub entry_faults : ℕ → Option Members → List SettingsFault
 entry_faults radar None = Kind (path (Some radar) 8) ∷ []
-entry_faults radar (Some table) = faults (Some radar) table RADAR_KEYS
+entry_faults radar (Some table) = faults (Some radar) table radar_keys
 
 -- the same of some entries, numbered on
 abbrev pub numbered_faults : ℕ → List (Option Members) → List SettingsFault
@@ -69,12 +68,12 @@ number_faults document = system_faults (system_of document) ++ radars_faults (ra
 pub record SystemGives (document : Members) (numbers : List ℤ) : Type 0 where
   pub table : Members
   pub stands : system_of document ≡ Some (Some table)
-  pub gives : Gives table SYSTEM_KEYS numbers
+  pub gives : Gives table system_keys numbers
 
 -- an entry gives a radar its numbers
 abbrev pub IsRadar : Option Members → RadarSettings → Type 0
 IsRadar None radar = ⊥
-IsRadar (Some table) radar = Gives table RADAR_KEYS (radar_numbers radar)
+IsRadar (Some table) radar = Gives table radar_keys (radar_numbers radar)
 
 -- the document has these radars
 pub record AreRadars (document : Members) (radars : List RadarSettings) : Type 0 where
@@ -82,17 +81,17 @@ pub record AreRadars (document : Members) (radars : List RadarSettings) : Type 0
   pub stand : radars_of document ≡ Some (Some entries)
   pub each : AllZip IsRadar entries radars
 
--- what is a table has only keys with rules
-abbrev pub knows : List KeyRule → Option Members → Bool
-knows rules None = true
-knows rules (Some table) = has_only rules table
+-- what is a table has these keys only
+abbrev pub knows : List Key → Option Members → Bool
+knows keys None = true
+knows keys (Some table) = has_only keys table
 
 abbrev pub system_known : Option (Option Members) → Bool
 system_known None = true
-system_known (Some system) = knows SYSTEM_KEYS system
+system_known (Some system) = knows system_keys system
 
 abbrev pub radars_known : Option (Option (List (Option Members))) → Bool
-radars_known (Some (Some entries)) = list_all (knows RADAR_KEYS) entries
+radars_known (Some (Some entries)) = list_all (knows radar_keys) entries
 radars_known other = true
 
 -- the name of one of the two keys of a document

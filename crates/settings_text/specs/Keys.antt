@@ -1,67 +1,52 @@
--- What a table says of its keys, each by the rule of the key.
-use Rattle.std.specs.Prelude.{◌≡◌, ℕ, Bool, true, ◌&&◌, if◌then◌else◌, ℤ, ◌≤ℤ◌, int_le, List, [], ◌∷◌, Option, Some, None, option_map, Result, Ok, Err}
-use Rattle.std.specs.List.{AllZip, filter_map, list_all, list_any}
-use Rattle.std.specs.Option.{ok_or}
-use Rattle.std.specs.Result.{result_err}
-use Rattle.std.specs.Str.{bytes_eq}
-use Rattle.toml.specs.Data.{Members, no_members, member, get_member, as_integer}
-use Rattle.settings_text.specs.declared.keys.KeyRule.{KeyRule}
-use Rattle.settings_text.specs.declared.faults.KeyPath.{KeyPath}
-use Rattle.settings_text.specs.declared.faults.SettingsFault.{SettingsFault}
-use Rattle.settings_text.specs.declared.faults.SettingsFault.TheVariants.{Missing, Kind, Range}
-use Rattle.settings_text.specs.Names.{text_of}
+-- The keys of the settings, as the manual for a site lists them. The program's own table is proved to be this one.
+use Rattle.std.specs.Prelude.{ℕ, ℤ, pos, neg_ℤ, List, [], ◌∷◌, codes}
 
--- what is wrong, once it is said where
-abbrev pub Flaw : Type 0
-Flaw = KeyPath → SettingsFault
+-- what holds where a key is left out: nothing, since it is required, or its default
+pub data Otherwise : Type 0 where
+  required : Otherwise
+  default : ℤ → Otherwise
 
--- the key of a radar, or of the system
-abbrev pub path : Option ℕ → ℕ → KeyPath
-path radar key = record { radar = radar; key = key }
+-- a key, whose value is an integer
+pub record Key : Type 0 where
+  pub number : ℕ
+  pub name : List ℕ
+  pub least : ℤ
+  pub greatest : ℤ
+  pub otherwise : Otherwise
 
--- the number is neither below the first nor above the second
-abbrev pub IsBetween : ℤ → ℤ → ℤ → Type 0
-IsBetween least most number = (least ≤ℤ number) × (number ≤ℤ most)
+-- key number so and so, its name, its least and its greatest value, and what holds otherwise
+abbrev pub key : ℕ → List ℕ → ℤ → ℤ → Otherwise → Key
+key number name least greatest otherwise = record { number = number; name = name; least = least; greatest = greatest; otherwise = otherwise }
 
--- whether the number is in the range of the key
-abbrev pub is_within : KeyRule → ℤ → Bool
-is_within rule number = int_le rule.least number && int_le number rule.most
+-- a number below zero
+abbrev pub minus : ℕ → ℤ
+minus size = neg_ℤ (pos size)
 
--- each number is in the range of its key
-abbrev pub AreWithin : List KeyRule → List ℤ → Type 0
-AreWithin = AllZip (λ rule number. is_within rule number ≡ true)
+-- the keys of the table `system`
+abbrev pub system_keys : List Key
+system_keys =
+    key 1 (codes "sac") (pos 0) (pos 255) required
+    ∷ key 2 (codes "sic") (pos 0) (pos 255) required
+    ∷ key 3 (codes "service") (pos 0) (pos 255) required
+    ∷ key 4 (codes "window") (pos 2) (pos 120) (default (pos 32))
+    ∷ key 5 (codes "hits") (pos 1) (pos 8) (default (pos 3))
+    ∷ key 6 (codes "keep_tentative") (pos 1) (pos 60) (default (pos 15))
+    ∷ key 7 (codes "keep_confirmed") (pos 1) (pos 60) (default (pos 30))
+    ∷ []
 
--- The number of a key, by what stands there: nothing, something that is no integer, or an integer.
-abbrev pub number_of : KeyRule → Option (Option ℤ) → Result ℤ Flaw
-number_of rule None = ok_or rule.default Missing
-number_of rule (Some None) = Err Kind
-number_of rule (Some (Some number)) = if is_within rule number then Ok number else Err Range
-
--- the number that a table gives a key
-abbrev pub number_at : Members → KeyRule → Result ℤ Flaw
-number_at table rule = number_of rule (option_map as_integer (get_member (text_of rule.name) table))
-
--- the numbers that a table gives some keys, in their order
-abbrev pub Gives : Members → List KeyRule → List ℤ → Type 0
-Gives table = AllZip (λ rule number. number_at table rule ≡ Ok number)
-
--- what is wrong at a key of a table
-abbrev pub fault_at : Option ℕ → Members → KeyRule → Option SettingsFault
-fault_at radar table rule = option_map (λ flaw. flaw (path radar rule.number)) (result_err (number_at table rule))
-
--- all that is wrong at some keys, in their order
-abbrev pub faults : Option ℕ → Members → List KeyRule → List SettingsFault
-faults radar table = filter_map (fault_at radar table)
-
--- some rule is that of a key of this name
-abbrev pub is_key : List KeyRule → List ℕ → Bool
-is_key rules name = list_any (λ rule. bytes_eq (text_of rule.name) name) rules
-
--- the names of a table's keys
-abbrev pub names : Members → List (List ℕ)
-names no_members = []
-names (member name value rest) = name ∷ names rest
-
--- each key of the table has a rule
-abbrev pub has_only : List KeyRule → Members → Bool
-has_only rules table = list_all (is_key rules) (names table)
+-- the keys of each table of the array `radar`
+abbrev pub radar_keys : List Key
+radar_keys =
+    key 8 (codes "sac") (pos 0) (pos 255) required
+    ∷ key 9 (codes "sic") (pos 0) (pos 255) required
+    ∷ key 10 (codes "x") (minus 1000000) (pos 1000000) required
+    ∷ key 11 (codes "y") (minus 1000000) (pos 1000000) required
+    ∷ key 12 (codes "height") (minus 500) (pos 9000) (default (pos 0))
+    ∷ key 13 (codes "north") (pos 0) (pos 65535) (default (pos 0))
+    ∷ key 14 (codes "range_gain") (minus 10000) (pos 10000) (default (pos 0))
+    ∷ key 15 (codes "range_bias") (minus 1000) (pos 1000) (default (pos 0))
+    ∷ key 16 (codes "azimuth_bias") (minus 1000) (pos 1000) (default (pos 0))
+    ∷ key 17 (codes "time_bias") (minus 1280) (pos 1280) (default (pos 0))
+    ∷ key 18 (codes "range_sigma") (pos 10) (pos 1000) required
+    ∷ key 19 (codes "azimuth_sigma") (pos 1) (pos 200) required
+    ∷ []

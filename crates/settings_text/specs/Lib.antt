@@ -1,6 +1,7 @@
 pub mod Answers
 pub mod Documents
 pub mod Keys
-pub mod Names
 pub mod Numbers
+pub mod Rules
+pub mod Tables
 pub mod Texts

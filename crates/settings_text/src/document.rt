@@ -6,7 +6,7 @@ ghost use Rattle.admission_log.specs.declared.settings.Settings.{Settings};
 ghost use Rattle.settings_text.specs.declared.faults.SettingsFault.{SettingsFault};
 ghost use Rattle.settings_text.specs.declared.faults.SettingsFault.TheVariants.{Syntax};
 ghost use Rattle.std.specs.List.{list_all};
-ghost use Rattle.settings_text.specs.Keys.{names};
+ghost use Rattle.settings_text.specs.Tables.{names};
 ghost use Rattle.settings_text.specs.Documents.{is_known, is_part};
 ghost use Rattle.settings_text.specs.Answers.{IsDocument, IsSettings, IsFaultOf, IsAnswer, OnFault, Agrees};
 
@@ -20,9 +20,9 @@ use toml::Table;
 /// How many octets the settings have at most.
 pub const MAX_OCTETS: usize = 65_536;
 
-/// The settings that a TOML document gives, in UTF-8.
+/// The settings that a document gives: TOML 1.1, as `toml` defines it, in UTF-8 of at most 65,536 octets. `specs/Keys.antt` lists its keys, with ranges and defaults.
 ///
-/// The first fault is told: that there is no such document; then what is wrong with the numbers of the system and of the radars, in the order of the keys; then that there is an unknown key; then that two radars have the same SAC and SIC.
+/// Else its first fault is told, in this order: that there is no such document; what is wrong with keys 1 to 7 of the system; what is wrong with the radars, one after the other, each with keys 8 to 19; that there is an unknown key; that two radars have the same SAC and SIC. Want of memory comes at any place.
 pub fn read_settings(alloc: Global, bytes: &[u8]) -> Result<Settings, SettingsError>
     ensures ok { IfOk result (λ settings. IsAnswer bytes.now (Ok settings)) }
     ensures fault { IfErr result (λ error. OnFault error (λ fault. IsAnswer bytes.now (Err fault))) }

@@ -1,4 +1,4 @@
-//! The keys of the settings: the one place for their numbers, names, ranges and defaults.
+//! The program's table of the keys. `laws::one_table` says that it is the list of the definition, `specs/Keys.antt`.
 
 /// The name of a key.
 #[derive(Clone, Copy, Debug, PartialEq, Eq)]
@@ -41,7 +41,7 @@ pub enum Name {
 
 impl Name {
     ghost use Rattle.std.specs.Prelude.{◌≡◌};
-    ghost use Rattle.settings_text.specs.Names.{text_of};
+    ghost use Rattle.settings_text.specs.Rules.{text_of};
 
     /// The name as it is written.
     pub fn text(&self) -> &'static str
@@ -69,7 +69,7 @@ impl Name {
     }
 }
 
-/// One key of a table: all values are integers.
+/// What the program knows of a key. All values are integers.
 #[derive(Clone, Copy, Debug)]
 pub struct KeyRule {
     /// The number of the key, by which a fault names it.
@@ -79,8 +79,8 @@ pub struct KeyRule {
     /// The least value.
     pub least: i64,
     /// The greatest value.
-    pub most: i64,
-    /// The value where the key is left out, or None where it's required.
+    pub greatest: i64,
+    /// The value where the key is left out, in its range, or None where it's required.
     pub default: Option<i64>,
 }
 
@@ -90,49 +90,49 @@ pub const SYSTEM_KEYS: [KeyRule; 7] = [
         number: 1,
         name: Name::Sac,
         least: 0,
-        most: 255,
+        greatest: 255,
         default: None,
     },
     KeyRule {
         number: 2,
         name: Name::Sic,
         least: 0,
-        most: 255,
+        greatest: 255,
         default: None,
     },
     KeyRule {
         number: 3,
         name: Name::Service,
         least: 0,
-        most: 255,
+        greatest: 255,
         default: None,
     },
     KeyRule {
         number: 4,
         name: Name::Window,
         least: 2,
-        most: 120,
+        greatest: 120,
         default: Some(32),
     },
     KeyRule {
         number: 5,
         name: Name::Hits,
         least: 1,
-        most: 8,
+        greatest: 8,
         default: Some(3),
     },
     KeyRule {
         number: 6,
         name: Name::KeepTentative,
         least: 1,
-        most: 60,
+        greatest: 60,
         default: Some(15),
     },
     KeyRule {
         number: 7,
         name: Name::KeepConfirmed,
         least: 1,
-        most: 60,
+        greatest: 60,
         default: Some(30),
     },
 ];
@@ -143,84 +143,84 @@ pub const RADAR_KEYS: [KeyRule; 12] = [
         number: 8,
         name: Name::Sac,
         least: 0,
-        most: 255,
+        greatest: 255,
         default: None,
     },
     KeyRule {
         number: 9,
         name: Name::Sic,
         least: 0,
-        most: 255,
+        greatest: 255,
         default: None,
     },
     KeyRule {
         number: 10,
         name: Name::X,
         least: -1_000_000,
-        most: 1_000_000,
+        greatest: 1_000_000,
         default: None,
     },
     KeyRule {
         number: 11,
         name: Name::Y,
         least: -1_000_000,
-        most: 1_000_000,
+        greatest: 1_000_000,
         default: None,
     },
     KeyRule {
         number: 12,
         name: Name::Height,
         least: -500,
-        most: 9_000,
+        greatest: 9_000,
         default: Some(0),
     },
     KeyRule {
         number: 13,
         name: Name::North,
         least: 0,
-        most: 65_535,
+        greatest: 65_535,
         default: Some(0),
     },
     KeyRule {
         number: 14,
         name: Name::RangeGain,
         least: -10_000,
-        most: 10_000,
+        greatest: 10_000,
         default: Some(0),
     },
     KeyRule {
         number: 15,
         name: Name::RangeBias,
         least: -1_000,
-        most: 1_000,
+        greatest: 1_000,
         default: Some(0),
     },
     KeyRule {
         number: 16,
         name: Name::AzimuthBias,
         least: -1_000,
-        most: 1_000,
+        greatest: 1_000,
         default: Some(0),
     },
     KeyRule {
         number: 17,
         name: Name::TimeBias,
         least: -1_280,
-        most: 1_280,
+        greatest: 1_280,
         default: Some(0),
     },
     KeyRule {
         number: 18,
         name: Name::RangeSigma,
         least: 10,
-        most: 1_000,
+        greatest: 1_000,
         default: None,
     },
     KeyRule {
         number: 19,
         name: Name::AzimuthSigma,
         least: 1,
-        most: 200,
+        greatest: 200,
         default: None,
     },
 ];

@@ -15,5 +15,4 @@ mod texts;
 
 pub use document::{MAX_OCTETS, read_settings};
 pub use faults::{KeyPath, SettingsError, SettingsFault};
-pub use keys::{KeyRule, Name, RADAR_KEYS, SYSTEM_KEYS};
-pub use laws::one_answer;
+pub use laws::{one_answer, one_table};

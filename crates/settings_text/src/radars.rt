@@ -4,7 +4,8 @@ ghost use Rattle.std.specs.List.{AllZip, list_all};
 ghost use Rattle.toml.specs.Data.{as_table};
 ghost use Rattle.toml.specs.View.{view, table_view};
 ghost use Rattle.admission_log.specs.Sources.{HaveOwnSources};
-ghost use Rattle.settings_text.specs.Keys.{AreWithin, path};
+ghost use Rattle.settings_text.specs.Keys.{radar_keys};
+ghost use Rattle.settings_text.specs.Tables.{AreWithin, path};
 ghost use Rattle.settings_text.specs.Numbers.{radar_numbers};
 ghost use Rattle.settings_text.specs.Documents.{radars_of, tables_of, entry_faults, numbered_faults, entries_faults, radars_faults, IsRadar, AreRadars, knows, radars_known};
 ghost use Rattle.settings_text.specs.Answers.{IsFirst, OnFault, Repeats};
@@ -20,7 +21,7 @@ use toml::{Table, Value};
 
 // A radar of these numbers.
 fn radar_settings(numbers: &[i64; 12]) -> RadarSettings
-    requires { AreWithin RADAR_KEYS numbers.now }
+    requires { AreWithin radar_keys numbers.now }
     ensures { radar_numbers result ≡ numbers.now }
 {
     let [
@@ -127,7 +128,7 @@ pub fn read_radars(alloc: Global, document: &Table) -> Result<Vec<RadarSettings>
 
 // Whether no key of an entry is unknown.
 fn entry_is_known(entry: &Value) -> bool
-    ensures { result ≡ knows RADAR_KEYS (as_table (view entry.now)) }
+    ensures { result ≡ knows radar_keys (as_table (view entry.now)) }
 {
     match entry.as_table() {
         Some(table) => has_only(&RADAR_KEYS, table),
@@ -137,7 +138,7 @@ fn entry_is_known(entry: &Value) -> bool
 
 // Whether no key of some entries is unknown.
 fn entries_are_known(entries: &[Value]) -> bool
-    ensures { result ≡ list_all (knows RADAR_KEYS) (tables_of entries.now) }
+    ensures { result ≡ list_all (knows radar_keys) (tables_of entries.now) }
 {
     entries.iter().all(|entry| entry_is_known(entry))
 }

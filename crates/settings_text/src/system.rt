@@ -2,7 +2,8 @@
 ghost use Rattle.std.specs.Prelude.{◌≡◌, ◌≤◌, vec_len, IfOk, IfErr};
 ghost use Rattle.toml.specs.View.{table_view};
 ghost use Rattle.admission_log.specs.Sources.{HaveOwnSources};
-ghost use Rattle.settings_text.specs.Keys.{AreWithin};
+ghost use Rattle.settings_text.specs.Keys.{system_keys};
+ghost use Rattle.settings_text.specs.Tables.{AreWithin};
 ghost use Rattle.settings_text.specs.Numbers.{system_numbers};
 ghost use Rattle.settings_text.specs.Documents.{SystemGives, system_of, system_faults, system_known};
 ghost use Rattle.settings_text.specs.Answers.{IsFirst};
@@ -47,7 +48,7 @@ pub fn system_is_known(document: &Table) -> bool
 
 /// Settings of these numbers and radars.
 pub fn settings_of(numbers: &[i64; 7], radars: Vec<RadarSettings>) -> Settings
-    requires within { AreWithin SYSTEM_KEYS numbers.now }
+    requires within { AreWithin system_keys numbers.now }
     requires some { 1 ≤ vec_len radars }
     requires most { vec_len radars ≤ 32 }
     requires own_sources { HaveOwnSources radars.items }

@@ -2,7 +2,8 @@
 ghost use Rattle.std.specs.Prelude.{◌≡◌, IfOk, IfErr, option_map};
 ghost use Rattle.toml.specs.Data.{as_integer, as_table, get_member};
 ghost use Rattle.toml.specs.View.{view, table_view};
-ghost use Rattle.settings_text.specs.Keys.{number_at, fault_at, Gives, faults, is_key, has_only};
+ghost use Rattle.settings_text.specs.Rules.{key_of, keys_of};
+ghost use Rattle.settings_text.specs.Tables.{number_at, fault_at, Gives, faults, is_key, has_only};
 ghost use Rattle.settings_text.specs.Documents.{as_entries, tables_of};
 ghost use Rattle.settings_text.specs.Answers.{IsFirst};
 
@@ -57,10 +58,10 @@ fn integer_at(table: &Table, name: &str) -> Option<Option<i64>>
     }
 }
 
-// The number that a table gives a key.
+// The number that a table gives the key of a rule.
 fn number(radar: Option<u8>, table: &Table, rule: &KeyRule) -> Result<i64, SettingsFault>
-    ensures ok { IfOk result (λ number. number_at (table_view table.now) rule.now ≡ Ok number) }
-    ensures err { IfErr result (λ fault. fault_at radar (table_view table.now) rule.now ≡ Some fault) }
+    ensures ok { IfOk result (λ number. number_at (table_view table.now) (key_of rule.now) ≡ Ok number) }
+    ensures err { IfErr result (λ fault. fault_at radar (table_view table.now) (key_of rule.now) ≡ Some fault) }
 {
     let path = KeyPath {
         radar,
@@ -73,7 +74,7 @@ fn number(radar: Option<u8>, table: &Table, rule: &KeyRule) -> Result<i64, Setti
         },
         Some(None) => Err(SettingsFault::Kind(path)),
         Some(Some(number)) => {
-            if rule.least <= number && number <= rule.most {
+            if rule.least <= number && number <= rule.greatest {
                 Ok(number)
             } else {
                 Err(SettingsFault::Range(path))
@@ -82,7 +83,7 @@ fn number(radar: Option<u8>, table: &Table, rule: &KeyRule) -> Result<i64, Setti
     }
 }
 
-/// The numbers that a table gives some keys, in their order.
+/// The numbers that a table gives the keys of some rules, in their order.
 ///
 /// It is refused exactly where something is wrong at a key, by what is wrong at the first such.
 pub fn numbers<const N: usize>(
@@ -90,8 +91,8 @@ pub fn numbers<const N: usize>(
     table: &Table,
     rules: &[KeyRule; N],
 ) -> Result<[i64; N], SettingsFault>
-    ensures ok { IfOk result (λ numbers. Gives (table_view table.now) rules.now numbers) }
-    ensures err { IfErr result (λ fault. IsFirst fault (faults radar (table_view table.now) rules.now)) }
+    ensures ok { IfOk result (λ numbers. Gives (table_view table.now) (keys_of rules.now) numbers) }
+    ensures err { IfErr result (λ fault. IsFirst fault (faults radar (table_view table.now) (keys_of rules.now))) }
 {
     let mut numbers = [0; N];
     for (place, rule) in rules.iter().enumerate() {
@@ -100,16 +101,16 @@ pub fn numbers<const N: usize>(
     Ok(numbers)
 }
 
-// Whether some rule is that of a key of this name.
+// Whether some rule's key has this name.
 fn is_key(rules: &[KeyRule], name: &str) -> bool
-    ensures { result ≡ is_key rules.now name.now }
+    ensures { result ≡ is_key (keys_of rules.now) name.now }
 {
     rules.iter().any(|rule| rule.name.text() == name)
 }
 
-/// Whether each key of a table has a rule.
+/// Whether a table has no keys but those of some rules.
 pub fn has_only(rules: &[KeyRule], table: &Table) -> bool
-    ensures { result ≡ has_only rules.now (table_view table.now) }
+    ensures { result ≡ has_only (keys_of rules.now) (table_view table.now) }
 {
     table.keys().all(|name| is_key(rules, name.as_str()))
 }

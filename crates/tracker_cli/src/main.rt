@@ -22,7 +22,10 @@ fn words<R: Env + Alloc<A = Global>>(rt: &R) -> Result<Vec<String>, Status> {
 
 fn main(rt: HostRuntime) -> ExitCode {
     let status = match words(&rt) {
-        Ok(words) => run_batch(rt.alloc(), &words, &mut FileHost::new(rt)),
+        Ok(words) => match rt.clone() {
+            Ok(files) => run_batch(&rt, rt.alloc(), &words, &mut FileHost::new(files)),
+            Err(_) => Status::Memory,
+        },
         Err(status) => status,
     };
     ExitCode::from(status.code())

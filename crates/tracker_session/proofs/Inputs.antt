@@ -16,7 +16,7 @@ one_read octets s t xs ys f g h k =
       | inr short ↦ one_reading octets false s t xs ys f g (h.whole short) (k.whole short)
     ]
 
-front_bytes : (n : ℕ) (octets : List ℕ) → IsBytes octets → IsBytes (take n octets)
+pub front_bytes : (n : ℕ) (octets : List ℕ) → IsBytes octets → IsBytes (take n octets)
 front_bytes n octets bytes i =
     elim (cases_lt i n) [
       | inl within ↦ omega (arith, bytes i, get_or-take n octets i 0 within)

@@ -15,7 +15,7 @@ use Rattle.recording.specs.Readings.{IsReadingOfFront}
 use Rattle.admission_log.specs.declared.settings.Settings as admission
 use Rattle.tracker_session.specs.declared.screen.Counts.{Counts}
 use Rattle.tracker_session.specs.declared.status.Status.{Status}
-use Rattle.tracker_session.specs.declared.status.Status.TheVariants.{Done, Usage, Settings, Input, Read, Write, Memory}
+use Rattle.tracker_session.specs.declared.status.Status.TheVariants.{Done, Usage, Settings, Input, Read, Write, Memory, NotProved}
 use Rattle.tracker_session.specs.Answers.{IsAnswer, Replayed, Answered, ReplayedFront, BreaksOff, WritingBreaksOff}
 use Rattle.tracker_session.specs.Places.{AppendsFront, Has, GotFront, BoundAtMost, PlaceRead, IsFaultless, OutputBound, StopsReading, StopsWriting, UsesRead, UsesWrite, UsesInputAndOutput}
 use Rattle.tracker_session.specs.Inputs.{IsRead, limit}
@@ -51,9 +51,8 @@ replays_alike settings a b output counts fault (inr h) r = record {
   start = r.start;
   items = r.items;
   reading = reading_alike a b r.start r.items fault h r.reading;
-  taken = r.taken;
-  items_are = r.items_are;
-  are_taken = r.are_taken;
+  log = r.log;
+  log_is = r.log_is;
   output_is = r.output_is;
   counts_are = r.counts_are;
 }
@@ -93,6 +92,7 @@ no_answer settings octets (Settings fault) old new never = tt
 no_answer settings octets (Read spot) old new never = tt
 no_answer settings octets (Write spot) old new never = tt
 no_answer settings octets Memory old new never = tt
+no_answer settings octets (NotProved index offset) old new never = tt
 
 pub read_no_answer : (place : Place) (s : Status) (old new : HostState) → StopsReading place s old new → IsAnswer (Err s) → ⊥
 read_no_answer place (Input offset) old new h is = h
@@ -102,6 +102,7 @@ read_no_answer place (Settings fault) old new h is = is
 read_no_answer place (Read spot) old new h is = is
 read_no_answer place (Write spot) old new h is = is
 read_no_answer place Memory old new h is = is
+read_no_answer place (NotProved index offset) old new h is = is
 
 write_no_answer : (s : Status) (old new : HostState) → StopsWriting s old new → IsAnswer (Err s) → ⊥
 write_no_answer (Input offset) old new h is = h
@@ -111,6 +112,7 @@ write_no_answer (Settings fault) old new h is = is
 write_no_answer (Read spot) old new h is = is
 write_no_answer (Write spot) old new h is = is
 write_no_answer Memory old new h is = is
+write_no_answer (NotProved index offset) old new h is = is
 
 read_causes : (s : Status) (old new : HostState) → StopsReading places.Input s old new → BreaksOff (Err s) old new
 read_causes (Input offset) old new h = absurd h
@@ -120,6 +122,7 @@ read_causes (Settings fault) old new h = absurd h
 read_causes (Read spot) old new h = h
 read_causes (Write spot) old new h = absurd h
 read_causes Memory old new h = tt
+read_causes (NotProved index offset) old new h = absurd h
 
 write_causes : (s : Status) (old new : HostState) → StopsWriting s old new → BreaksOff (Err s) old new
 write_causes (Input offset) old new h = absurd h
@@ -129,6 +132,7 @@ write_causes (Settings fault) old new h = absurd h
 write_causes (Read spot) old new h = absurd h
 write_causes (Write spot) old new h = h
 write_causes Memory old new h = tt
+write_causes (NotProved index offset) old new h = absurd h
 
 write_not_before : (s : Status) (old new : HostState) → StopsWriting s old new → IsBeforeOutput (Err s) → ⊥
 write_not_before (Input offset) old new h is = is
@@ -138,6 +142,7 @@ write_not_before (Settings fault) old new h is = h
 write_not_before (Read spot) old new h is = h
 write_not_before (Write spot) old new h is = is
 write_not_before Memory old new h is = is
+write_not_before (NotProved index offset) old new h is = is
 
 pub output_input : places.Output ≢ places.Input
 output_input e = cc
@@ -208,12 +213,14 @@ answered_up settings octets all (Err (Settings fault)) old mid new alike got h =
 answered_up settings octets all (Err (Read spot)) old mid new alike got h = tt
 answered_up settings octets all (Err (Write spot)) old mid new alike got h = tt
 answered_up settings octets all (Err Memory) old mid new alike got h = tt
+answered_up settings octets all (Err (NotProved index offset)) old mid new alike got h = tt
 
 causes_up : (r : Result Counts Status) (old mid new : HostState) → old.faults places.Output ≤ mid.faults places.Output → WritingBreaksOff r mid new → BreaksOff r old new
 causes_up (Ok counts) old mid new later h = tt
 causes_up (Err (Input offset)) old mid new later h = tt
 causes_up (Err (Write spot)) old mid new later h = (h.0, Rose_since (old.faults places.Output) (mid.faults places.Output) (new.faults places.Output) later h.1)
 causes_up (Err Memory) old mid new later h = tt
+causes_up (Err (NotProved index offset)) old mid new later h = absurd h
 causes_up (Err Done) old mid new later h = absurd h
 causes_up (Err Usage) old mid new later h = absurd h
 causes_up (Err (Settings fault)) old mid new later h = absurd h
@@ -224,6 +231,7 @@ taken_not_before (Ok counts) old new h is = is
 taken_not_before (Err (Input offset)) old new h is = is
 taken_not_before (Err (Write spot)) old new h is = is
 taken_not_before (Err Memory) old new h is = is
+taken_not_before (Err (NotProved index offset)) old new h is = is
 taken_not_before (Err Done) old new h is = is
 taken_not_before (Err Usage) old new h is = is
 taken_not_before (Err (Settings fault)) old new h is = h

@@ -13,7 +13,7 @@ use Rattle.settings_text.specs.Answers.{no_document, in_document}
 use Rattle.settings_text.proofs.OnlyAnswer.{only_answer}
 use Rattle.tracker_session.specs.declared.screen.Counts.{Counts}
 use Rattle.tracker_session.specs.declared.status.Status.{Status}
-use Rattle.tracker_session.specs.declared.status.Status.TheVariants.{Done, Usage, Settings, Input, Read, Write, Memory}
+use Rattle.tracker_session.specs.declared.status.Status.TheVariants.{Done, Usage, Settings, Input, Read, Write, Memory, NotProved}
 use Rattle.tracker_session.specs.Answers.{IsAnswer, BreaksOff}
 use Rattle.tracker_session.specs.Judging.{StopsJudging}
 use Rattle.tracker_session.specs.Places.{AppendsFront, BoundAtMost, PlaceRead, StopsReading, UsesRead}
@@ -67,6 +67,7 @@ unread_breaks (Settings fault) old new h = tt
 unread_breaks (Read spot) old new h = inl h
 unread_breaks (Write spot) old new h = absurd h
 unread_breaks Memory old new h = tt
+unread_breaks (NotProved index offset) old new h = absurd h
 
 -- Settings wasn't read
 pub ran_unread : (settings input output : List ℕ) (s : Status) (old new : HostState) → StopsReading places.Settings s old new → BoundAtMost (new.bound places.Settings) ways.Read settings → UsesRead places.Settings old new → ((p : Place) → old.bound p ≡ None) → Ran settings input output (Err s) old new
@@ -98,6 +99,7 @@ judged_no_answer octets (Settings fault) h is = is
 judged_no_answer octets (Read spot) h is = is
 judged_no_answer octets (Write spot) h is = is
 judged_no_answer octets Memory h is = is
+judged_no_answer octets (NotProved index offset) h is = is
 
 judged_breaks : (octets : List ℕ) (s : Status) (old new : HostState) → StopsJudging octets s → Breaks (Err s) old new
 judged_breaks octets (Input offset) old new h = tt
@@ -107,6 +109,7 @@ judged_breaks octets (Settings fault) old new h = tt
 judged_breaks octets (Read spot) old new h = absurd h
 judged_breaks octets (Write spot) old new h = absurd h
 judged_breaks octets Memory old new h = tt
+judged_breaks octets (NotProved index offset) old new h = absurd h
 
 -- Settings was no document of settings
 pub ran_unsettled : (settings input output octets : List ℕ) (s : Status) (old new : HostState) → PlaceRead places.Settings octets settings old new → UsesRead places.Settings old new → StopsJudging octets s → ((p : Place) → old.bound p ≡ None) → Ran settings input output (Err s) old new
@@ -136,6 +139,7 @@ breaks_up (Err (Input offset)) old mid new later h = tt
 breaks_up (Err (Write spot)) old mid new later h = (h.0, Rose_since (old.faults places.Output) (mid.faults places.Output) (new.faults places.Output) (later places.Output) h.1)
 breaks_up (Err (Read spot)) old mid new later h = inr (h.0, Rose_since (old.faults places.Input) (mid.faults places.Input) (new.faults places.Input) (later places.Input) h.1)
 breaks_up (Err Memory) old mid new later h = tt
+breaks_up (Err (NotProved index offset)) old mid new later h = absurd h
 breaks_up (Err Done) old mid new later h = absurd h
 breaks_up (Err Usage) old mid new later h = absurd h
 breaks_up (Err (Settings fault)) old mid new later h = tt

@@ -1,7 +1,7 @@
 -- Each list of octets has a replay under all settings.
 use Rattle.std.proofs.Common.{◌≡◌, ap, sym, refl, subst, inl, inr, ℕ, ◌+◌, ◌<◌, List, [], ◌∷◌, ◌++◌, length, take, drop, get_or, arith, append_assoc, append-nil, All, true, false}
 use Rattle.std.specs.Prelude.{map, filter, Bool, Option, Some, None}
-use Rattle.std.specs.List.{flat_map, AllByRecursion}
+use Rattle.std.specs.List.{flat_map, concat, AllByRecursion, AllZip}
 use Rattle.std.proofs.lemmas.Bool.{cases_lt}
 use Rattle.std.proofs.lemmas.List.{get_or_append_left, get_or_past, take-append-drop}
 use Rattle.std.proofs.lemmas.List.Elements.{All-from_get_or}
@@ -14,11 +14,15 @@ use Rattle.recording.specs.Raw.{TimedBlock, blocks_of, start_of, ticks, tick_bef
 use Rattle.recording.specs.Readings.{header, Reads}
 use Rattle.recording.proofs.Codes.{IsBytes, bytes_of, rest_bytes}
 use Rattle.admission_log.specs.declared.settings.Settings.{Settings}
-use Rattle.admission_log.specs.Histories.{History, last_of}
+use Rattle.admission_log.specs.declared.events.Event.{Event}
+use Rattle.admission_log.specs.declared.events.Event.TheVariants.{Tick}
+use Rattle.admission_log.specs.Deliveries.{delivery_to}
+use Rattle.admission_log.specs.Histories.{History, first, last_of}
 use Rattle.admission_log.specs.Plots.{plots_of}
+use Rattle.tracker_session.specs.Counting.{counts_of}
 use Rattle.tracker_session.specs.Inputs.{IsRead, limit}
 use Rattle.tracker_session.specs.Picture.{AreBlocksOf, is_shown, track_record, track_records}
-use Rattle.tracker_session.specs.Replay.{Taken, admitted, malformed, ticked, old_tick, item_as, IsTaken, AreTaken, log_with, log_of, Gives, IsOutput, counts_of, empty_log, HasReplay}
+use Rattle.tracker_session.specs.Replay.{Adds, IsLogBehind, IsEditionAt, IsOutput, HasReplay, log_with, empty_log, editions_of}
 use Rattle.tracker_session.specs.Setting.{IsSetting}
 use Rattle.tracker_session.proofs.Settings.{setting_grow, setting_next, setting_end}
 use Rattle.tracker_session.proofs.Inputs.{some_read}
@@ -63,6 +67,27 @@ all_sixteen settings time (p ∷ ps) = (refl, all_sixteen settings time ps)
 edition_some : (settings : Settings) (time : ℕ) (ps : List PlanePlot) → SetOut (track_records settings time ps)
 edition_some settings time ps =
     set_out [] (track_records settings time ps) [] (record { category = 62; body = [] }) (record { groups = []; last = []; filled = inl (refl, refl); all = refl; full_is = refl; block_is = refl }) (all_sixteen settings time (filter is_shown ps))
+
+record SomePieces (settings : Settings) (log : History) (editions : List (ℕ × ℕ)) : Type 0 where
+  pieces : List (List ℕ)
+  are : AllZip (IsEditionAt settings log) editions pieces
+
+some_pieces : (settings : Settings) (log : History) (editions : List (ℕ × ℕ)) → SomePieces settings log editions
+some_pieces settings log [] = record { pieces = []; are = tt }
+some_pieces settings log (edition ∷ editions) =
+    let cut = first edition.1 log in
+    let one = edition_some settings (last_of cut) (plots_of settings cut) in
+    let others = some_pieces settings log editions in
+    record { pieces = one.octets ∷ others.pieces; are = (one.blocks, others.are) }
+
+record SomeOutput (settings : Settings) (log : History) : Type 0 where
+  octets : List ℕ
+  is : IsOutput settings log octets
+
+some_output : (settings : Settings) (log : History) → SomeOutput settings log
+some_output settings log =
+    let all = some_pieces settings log (editions_of log) in
+    record { octets = concat all.pieces; is = record { pieces = all.pieces; editions = all.are; whole = refl } }
 
 -- ---- the octets of datagrams are below 256
 
@@ -132,65 +157,43 @@ input_bytes octets start items fault bytes r =
       | inr short ↦ read_bytes octets false start items fault bytes (r.whole short)
     ]
 
--- ---- what becomes of items, and what they give
+-- ---- the log of items
 
-record OneTaken (settings : Settings) (log : History) (item : Item) : Type 0 where
-  taken : Taken
-  item_is : item ≡ item_as taken
-  is_taken : IsTaken log taken
-  piece : List ℕ
-  gives : Gives settings log taken piece
+record SomeAdded (settings : Settings) (log : History) (item : Item) : Type 0 where
+  added : Option Event
+  adds : Adds settings log item added
 
-take_one : (settings : Settings) (log : History) (item : Item) → HasBytes item → OneTaken settings log item
-take_one settings log (datagram feed octets) bytes =
+some_added : (settings : Settings) (log : History) (item : Item) → HasBytes item → SomeAdded settings log item
+some_added settings log (datagram feed octets) bytes =
     elim (some_reading octets (all_of octets bytes)) [
-      | inl (contents, whole) ↦ record { taken = admitted feed octets contents; item_is = refl; is_taken = whole; piece = []; gives = refl }
-      | inr (offset, cause, fault) ↦ record { taken = malformed feed octets; item_is = refl; is_taken = record { offset = offset; cause = cause; fault = fault }; piece = []; gives = refl }
+      | inl (contents, whole) ↦ record { added = Some (delivery_to settings log feed contents); adds = (contents, whole, refl) }
+      | inr (offset, cause, fault) ↦ record { added = None; adds = record { offset = offset; cause = cause; fault = fault } }
     ]
-take_one settings log (tick time) bytes =
+some_added settings log (tick time) bytes =
     elim (cases_lt (last_of log) time) [
-      | inl later ↦ (let e = edition_some settings time (plots_of settings (log_with settings log (ticked time))) in
-          record { taken = ticked time; item_is = refl; is_taken = later; piece = e.octets; gives = e.blocks })
-      | inr old ↦ record { taken = old_tick time; item_is = refl; is_taken = old; piece = []; gives = refl }
+      | inl later ↦ record { added = Some (Tick time); adds = (later, refl) }
+      | inr old ↦ record { added = None; adds = old }
     ]
 
-record AllTaken (settings : Settings) (log : History) (items : List Item) : Type 0 where
-  taken : List Taken
-  items_are : items ≡ map item_as taken
-  are_taken : AreTaken settings log taken
-  output : List ℕ
-  output_is : IsOutput settings log taken output
+record SomeLog (settings : Settings) (earlier : History) (items : List Item) : Type 0 where
+  log : History
+  is : IsLogBehind settings earlier items log
 
-take_all : (settings : Settings) (log : History) (items : List Item) → AreBytes items → AllTaken settings log items
-take_all settings log [] bytes = record { taken = []; items_are = refl; are_taken = tt; output = []; output_is = refl }
-take_all settings log (item ∷ items) bytes =
-    let one = take_one settings log item bytes.0 in
-    let others = take_all settings (log_with settings log one.taken) items bytes.1 in
-    record {
-      taken = one.taken ∷ others.taken;
-      items_are = (λ i. one.item_is i ∷ others.items_are i);
-      are_taken = (one.is_taken, others.are_taken);
-      output = one.piece ++ others.output;
-      output_is = (one.piece, others.output, one.gives, others.output_is, refl);
-    }
+some_log : (settings : Settings) (earlier : History) (items : List Item) → AreBytes items → SomeLog settings earlier items
+some_log settings earlier [] bytes = record { log = earlier; is = refl }
+some_log settings earlier (item ∷ items) bytes =
+    let one = some_added settings earlier item bytes.0 in
+    let others = some_log settings (log_with earlier one.added) items bytes.1 in
+    record { log = others.log; is = (one.added, one.adds, others.is) }
 
 pub some_replay : (settings : Settings) (octets : List ℕ) → All (λ octet. octet < 256) octets → HasReplay settings octets
 some_replay settings octets all =
     let r = some_read octets all in
-    let log = empty_log r.start in
-    let t = take_all settings log r.items (input_bytes octets r.start r.items r.fault (bytes_of octets all) r.reading) in
+    let l = some_log settings (empty_log r.start) r.items (input_bytes octets r.start r.items r.fault (bytes_of octets all) r.reading) in
+    let o = some_output settings l.log in
     record {
-      output = t.output;
-      counts = counts_of (log_of settings log t.taken) t.taken;
+      output = o.octets;
+      counts = counts_of r.items l.log;
       fault = r.fault;
-      replays = record {
-        start = r.start;
-        items = r.items;
-        reading = r.reading;
-        taken = t.taken;
-        items_are = t.items_are;
-        are_taken = t.are_taken;
-        output_is = t.output_is;
-        counts_are = refl;
-      };
+      replays = record { start = r.start; items = r.items; reading = r.reading; log = l.log; log_is = l.is; output_is = o.is; counts_are = refl };
     }

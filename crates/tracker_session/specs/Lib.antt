@@ -1,6 +1,11 @@
 pub mod Answers
+pub mod CheckEnds
+pub mod CheckRuns
+pub mod Checking
 pub mod Closing
+pub mod Counting
 pub mod Ends
+pub mod Faulty
 pub mod Inputs
 pub mod Judging
 pub mod Picture

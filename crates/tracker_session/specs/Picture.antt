@@ -8,7 +8,7 @@ use Rattle.asterix_frame.specs.Blocks as frame
 use Rattle.asterix_frame.specs.Groups.{AreFilled, ungrouped}
 use Rattle.recording.specs.Items.{big_endian}
 use Rattle.admission_log.specs.declared.settings.Settings.{Settings}
-use Rattle.admission_log.specs.Histories.{History}
+use Rattle.admission_log.specs.Histories.{History, last_of}
 use Rattle.admission_log.specs.Plots.{plots_of}
 
 -- a length in 1/64 m as half metres
@@ -42,6 +42,6 @@ track_record settings time plot = 149 ∷ 12 ∷ settings.sac ∷ settings.sic �
 abbrev pub track_records : Settings → ℕ → List PlanePlot → List (List ℕ)
 track_records settings time plots = map (track_record settings time) (filter is_shown plots)
 
--- The octets are the edition of a log at a time: the blocks of a track for each of its plots.
-abbrev pub IsEdition : Settings → History → ℕ → List ℕ → Type 0
-IsEdition settings log time octets = AreBlocksOf (track_records settings time (plots_of settings log)) octets
+-- The octets are the edition of a log, at its last tick: the blocks of a track for each of its plots.
+abbrev pub IsEdition : Settings → History → List ℕ → Type 0
+IsEdition settings log octets = AreBlocksOf (track_records settings (last_of log) (plots_of settings log)) octets

@@ -1,5 +1,5 @@
 -- What came of a replay, before Screen got anything.
-use Rattle.std.specs.Prelude.{◌≡◌, ◌≢◌, ◌≤◌, ◌⊎◌, ⊤, ℕ, List, length, Some, None, Result, Ok, Err, string_bytes}
+use Rattle.std.specs.Prelude.{◌≡◌, ◌≢◌, ◌≤◌, ◌⊎◌, ⊤, ℕ, List, length, Some, None, Result, Ok, Err}
 use Rattle.io_traits.specs.Host.{HostState, IsEmpty}
 use Rattle.io_traits.specs.declared.host.Place.{Place}
 use Rattle.io_traits.specs.declared.host.Place.TheVariants as places
@@ -10,9 +10,7 @@ use Rattle.settings_text.specs.Answers as texts
 use Rattle.tracker_session.specs.declared.screen.Counts.{Counts}
 use Rattle.tracker_session.specs.declared.status.Spot.TheVariants as spots
 use Rattle.tracker_session.specs.declared.status.Status.{Status}
-use Rattle.tracker_session.specs.declared.status.Status.TheVariants.{Done, Usage, Settings, Input, Read, Write, Memory}
-use Rattle.tracker_session.specs.declared.words.Command.{Command}
-use Rattle.tracker_session.specs.declared.words.Command.TheVariants.{Replay}
+use Rattle.tracker_session.specs.declared.status.Status.TheVariants.{Done, Usage, NotProved, Settings, Input, Read, Write, Memory}
 use Rattle.tracker_session.specs.Answers.{IsAnswer, Answered, ReplayedFront, BreaksOff}
 use Rattle.tracker_session.specs.Inputs.{limit}
 use Rattle.tracker_session.specs.Places.{Has, HasFailed, BoundAtMost, IsFaultless, UsesInputAndOutput}
@@ -50,6 +48,7 @@ Breaks (Err (Write spot)) old new = (spot ≡ spots.Output) × HasFailed places.
 Breaks (Err Memory) old new = ⊤
 Breaks (Err Done) old new = ⊥
 Breaks (Err Usage) old new = ⊥
+Breaks (Err (NotProved index offset)) old new = ⊥
 
 -- Nothing changed but Settings, Input and Output; of Output nothing was read, and the others got nothing.
 pub record UsesThree (old new : HostState) : Type 0 where
@@ -81,23 +80,3 @@ pub record Ran (settings input output : List ℕ) (result : Result Counts Status
   pub whole_settings : IsAnswer result → (document : List ℕ) → Has places.Settings old document → length document ≤ limit → IsEmpty (new.left places.Settings)
   pub whole : IsAnswer result → (octets : List ℕ) → Has places.Input old octets → length octets ≤ limit → IsEmpty (new.left places.Input)
   pub uses : UsesThree old new
-
--- Nothing was done at all: the words were no command, or memory was wanting.
-pub record RanNothing (result : Result Counts Status) (old new : HostState) : Type 0 where
-  pub told : (result ≡ Err Usage) ⊎ (result ≡ Err Memory)
-  pub same : new ≡ old
-
--- why a command ended, if not for its settings or its input
-abbrev pub EndsFor : Result Counts Status → HostState → HostState → Type 0
-EndsFor (Err Usage) old new = new ≡ old
-EndsFor (Err Done) old new = ⊥
-EndsFor (Ok counts) old new = ⊤
-EndsFor (Err (Settings fault)) old new = ⊤
-EndsFor (Err (Read spot)) old new = ((spot ≡ spots.Settings) × HasFailed places.Settings old new) ⊎ ((spot ≡ spots.Input) × HasFailed places.Input old new)
-EndsFor (Err (Input offset)) old new = ⊤
-EndsFor (Err (Write spot)) old new = (spot ≡ spots.Output) × HasFailed places.Output old new
-EndsFor (Err Memory) old new = ⊤
-
--- .. by the command
-abbrev pub CommandRan : Command → Result Counts Status → HostState → HostState → Type 0
-CommandRan (Replay settings input output prices workers) result old new = Ran (string_bytes settings) (string_bytes input) (string_bytes output) result old new

@@ -7,7 +7,7 @@ use Rattle.tracker_session.specs.declared.screen.Counts.{Counts}
 use Rattle.tracker_session.specs.declared.status.Spot.{Spot}
 use Rattle.tracker_session.specs.declared.status.Spot.TheVariants as spots
 use Rattle.tracker_session.specs.declared.status.Status.{Status}
-use Rattle.tracker_session.specs.declared.status.Status.TheVariants.{Done, Usage, Settings, Input, Read, Write, Memory}
+use Rattle.tracker_session.specs.declared.status.Status.TheVariants.{Done, Usage, Settings, Input, Read, Write, Memory, NotProved}
 
 -- a key's number, and the radar whose key it is
 abbrev pub key_line : List ℕ → ℕ → Option ℕ → List ℕ
@@ -41,6 +41,7 @@ status_line (Input offset) = codes "input: offset " ++ (decimal offset ++ codes 
 status_line (Read spot) = spot_line (codes "read") spot
 status_line (Write spot) = spot_line (codes "write") spot
 status_line Memory = codes "no memory\n"
+status_line (NotProved index offset) = codes "not proved: certificate " ++ (decimal index ++ (codes " at offset " ++ (decimal offset ++ codes "\n")))
 
 -- the counts of a replay that has taken no item
 abbrev pub no_counts : Counts
@@ -65,3 +66,7 @@ others_text c =
 -- the line of a replay that was done
 abbrev pub counts_line : Counts → List ℕ
 counts_line c = codes "editions " ++ (decimal c.editions ++ (codes " " ++ (plots_text c ++ (codes " " ++ (others_text c ++ codes "\n")))))
+
+-- the line of a price file whose certificates all prove
+abbrev pub proved_line : ℕ → List ℕ
+proved_line count = codes "certificates " ++ (decimal count ++ codes " proved\n")

@@ -2,12 +2,11 @@
 use Rattle.std.specs.Prelude.{◌≡◌, ◌⊎◌, ◌≤◌, ℕ, List, ◌++◌, length, take}
 use Rattle.io_traits.specs.Host.{HostState}
 use Rattle.io_traits.specs.declared.host.Place.TheVariants as places
-use Rattle.tracker_session.specs.declared.screen.Counts.{Counts}
 use Rattle.tracker_session.specs.declared.status.Spot.TheVariants as spots
 use Rattle.tracker_session.specs.declared.status.Status.{Status}
 use Rattle.tracker_session.specs.declared.status.Status.TheVariants.{Done, Write, Memory}
 use Rattle.tracker_session.specs.Places.{Got, GotFront, HasFailed}
-use Rattle.tracker_session.specs.Screen.{status_line, counts_line}
+use Rattle.tracker_session.specs.Screen.{status_line}
 
 -- Screen got this line; or, where it failed, a front of it.
 abbrev pub Told : List ℕ → HostState → HostState → Type 0
@@ -22,15 +21,15 @@ pub record ToldBehind (line text : List ℕ) (old new : HostState) : Type 0 wher
   pub within_text : m ≤ length text
   pub got : Got places.Screen old new (take n line ++ take m text)
 
--- Of a replay that was done with these counts Screen got their line. Where that failed the status tells it.
-abbrev pub CountsTold : Counts → Status → HostState → HostState → Type 0
-CountsTold counts Done old new = Got places.Screen old new (counts_line counts) × (new.faults places.Screen ≡ old.faults places.Screen)
-CountsTold counts (Write spot) old new = (spot ≡ spots.Screen) × ToldBehind (counts_line counts) (status_line (Write spots.Screen)) old new
-CountsTold counts Memory old new = Told (status_line Memory) old new
-CountsTold counts _ old new = ⊥
+-- Of a command that was done Screen got the line. Where that failed the status tells it.
+abbrev pub LineTold : List ℕ → Status → HostState → HostState → Type 0
+LineTold line Done old new = Got places.Screen old new line × (new.faults places.Screen ≡ old.faults places.Screen)
+LineTold line (Write spot) old new = (spot ≡ spots.Screen) × ToldBehind line (status_line (Write spots.Screen)) old new
+LineTold line Memory old new = Told (status_line Memory) old new
+LineTold line _ old new = ⊥
 
--- At the end of a command Screen got the line of its counts or the text of its status.
-abbrev pub ToldAtEnd : Status → HostState → HostState → Type 0
-ToldAtEnd Done old new = (counts : Counts) × Got places.Screen old new (counts_line counts) × (new.faults places.Screen ≡ old.faults places.Screen)
-ToldAtEnd (Write spots.Screen) old new = (counts : Counts) × ToldBehind (counts_line counts) (status_line (Write spots.Screen)) old new
-ToldAtEnd status old new = Told (status_line status) old new
+-- At the end of a command, whose line tells some count, Screen got that line or the text of its status.
+abbrev pub ToldAtEnd : {C : Type 0} → (C → List ℕ) → Status → HostState → HostState → Type 0
+ToldAtEnd {C} line Done old new = (count : C) × Got places.Screen old new (line count) × (new.faults places.Screen ≡ old.faults places.Screen)
+ToldAtEnd {C} line (Write spots.Screen) old new = (count : C) × ToldBehind (line count) (status_line (Write spots.Screen)) old new
+ToldAtEnd {C} line status old new = Told (status_line status) old new

@@ -1,9 +1,13 @@
 // Laws of the definitions that the top call's clauses cite.
-ghost use Rattle.std.specs.Prelude.{◌≡◌, ◌<◌, ℕ, List, All, Option};
+ghost use Rattle.std.specs.Prelude.{◌≡◌, ◌<◌, ◌-◌, ℕ, List, All, Option, count_by};
 ghost use Rattle.admission_log.specs.declared.settings.Settings.{Settings};
 ghost use Rattle.recording.specs.Items.{Item};
+ghost use Rattle.tracker_session.specs.Checking.{Checks, HasVerdict, Verdict};
 ghost use Rattle.tracker_session.specs.Inputs.{HasReading, IsRead};
-ghost use Rattle.tracker_session.specs.Replay.{HasReplay, Replays};
+ghost use Rattle.admission_log.specs.Histories.{History};
+ghost use Rattle.tracker_session.specs.Counting.{is_datagram, is_delivery};
+ghost use Rattle.tracker_session.specs.Faulty.{HaveFaults};
+ghost use Rattle.tracker_session.specs.Replay.{HasReplay, IsReplayLog, Replays};
 ghost use Rattle.tracker_session.specs.declared.screen.Counts.{Counts};
 
 /// An input has exactly one reading, whether or not it passes the limit.
@@ -16,4 +20,15 @@ pub fn one_reading()
 pub fn one_replay()
     ensures some { (settings : Settings) (octets : List ℕ) → All (λ octet. octet < 256) octets → HasReplay settings octets }
     ensures one { (settings : Settings) (octets a b : List ℕ) (c d : Counts) (f g : Option ℕ) → Replays settings octets a c f → Replays settings octets b d g → (a ≡ b) × (c ≡ d) × (f ≡ g) }
+{}
+
+/// The datagrams of a replay that aren't in its log, which are counted as malformed, are those with a fault.
+pub fn malformed_datagrams()
+    ensures { (settings : Settings) (start : ℕ) (items : List Item) (log : History) → IsReplayLog settings start items log → HaveFaults items (count_by is_datagram items - count_by is_delivery log.events) }
+{}
+
+/// Octets have exactly one verdict as a price file: so many certificates, all of which prove; or one that is the first that doesn't; or one fault.
+pub fn one_check()
+    ensures some { (octets : List ℕ) → All (λ octet. octet < 256) octets → HasVerdict octets }
+    ensures one { (octets : List ℕ) (v w : Verdict) → Checks octets v → Checks octets w → v ≡ w }
 {}

@@ -2,6 +2,7 @@
 #![tactic(auto)]
 
 mod batch;
+mod checking;
 mod laws;
 mod picture;
 mod plots;
@@ -10,10 +11,11 @@ mod replay;
 mod screen;
 mod status;
 mod streams;
+mod tally;
 mod words;
 
 pub use batch::run_batch;
-pub use laws::{one_reading, one_replay};
+pub use laws::{malformed_datagrams, one_check, one_reading, one_replay};
 pub use status::{Spot, Status};
 pub use words::{Command, WordsError, parse_words};
 

@@ -1,5 +1,5 @@
 // The items of a recording, taken one after the other.
-ghost use Rattle.std.specs.Prelude.{◌≡◌, ◌+◌, ◌++◌, ◌∷◌, [], ◌<◌, ◌≤◌, ◌^◌, List, count_by, length, true, false, Ok, IfErr, IfOk, OnOk, OnErr};
+ghost use Rattle.std.specs.Prelude.{◌≡◌, ◌<◌, ◌≤◌, ◌^◌, length, true, false, Ok, IfErr, IfOk, OnOk, OnErr};
 ghost use Rattle.std.specs.List.{AllByRecursion};
 ghost use Rattle.io_traits.specs.Host.{IsBoundFor, WritesOnly};
 ghost use Rattle.io_traits.specs.declared.host.Place.{Place};
@@ -9,12 +9,10 @@ ghost use Rattle.recording.specs.Items.{IsItem, datagram, tick};
 ghost use Rattle.admission_log.specs.Histories.{last_of};
 ghost use Rattle.tracker_session.specs.Answers.{Answered, IsAnswer, ReplayedFront, WritingBreaksOff};
 ghost use Rattle.tracker_session.specs.Places.{StopsWriting};
-ghost use Rattle.tracker_session.specs.Replay.{counted, is_admitted, is_ahead, is_early, is_not_plot, is_unknown, others_in};
 ghost use Rattle.tracker_session.specs.Steps.{Breaks, BreaksEdition, Ends, Stopped, Takes, TakesSilently, WritesEdition};
-ghost use Rattle.tracker_session.specs.Tallies.{TakesTick, with_outcomes};
+ghost use Rattle.tracker_session.specs.Tallies.{TakesTick};
 ghost use Rattle.tracker_session.specs.Picture.{IsEdition};
 ghost use Rattle.admission_log.specs.declared.settings.Settings as Given;
-ghost use Rattle.admission_log.specs.declared.events.Event.{Event};
 
 use crate::picture::edition;
 use crate::plots::plots_of;
@@ -22,7 +20,8 @@ use crate::reading::read_octets;
 use crate::screen::Counts;
 use crate::status::{Spot, Status};
 use crate::streams::write_all;
-use admission_log::{AdmitError, Event, Log, Outcome, Settings, TickError};
+use crate::tally::{count_outcomes, more, others_in_last};
+use admission_log::{AdmitError, Log, Settings, TickError};
 use io_traits::{Failed, Host, Place};
 use recording::Item;
 use std::alloc::Global;
@@ -33,103 +32,6 @@ use trk_base::NoMemory;
 struct Run {
     log: Log,
     counts: Counts,
-}
-
-fn is_admitted(outcome: &Outcome) -> bool
-    ensures { result ≡ is_admitted outcome.now }
-{
-    matches!(outcome, Outcome::Admitted(_))
-}
-
-fn is_unknown(outcome: &Outcome) -> bool
-    ensures { result ≡ is_unknown outcome.now }
-{
-    matches!(outcome, Outcome::UnknownRadar)
-}
-
-fn is_early(outcome: &Outcome) -> bool
-    ensures { result ≡ is_early outcome.now }
-{
-    matches!(outcome, Outcome::BeforeHorizon { .. })
-}
-
-fn is_ahead(outcome: &Outcome) -> bool
-    ensures { result ≡ is_ahead outcome.now }
-{
-    matches!(outcome, Outcome::Ahead { .. })
-}
-
-fn is_not_plot(outcome: &Outcome) -> bool
-    ensures { result ≡ is_not_plot outcome.now }
-{
-    matches!(outcome, Outcome::NotPlot(_))
-}
-
-// A count, and what is to be added to it. It stands still at its type's end.
-fn more(count: u64, added: u64) -> u64
-    ensures { result ≡ counted (count + added) }
-{
-    count.saturating_add(added)
-}
-
-fn count_admitted(outcomes: &[Outcome]) -> u64
-    ensures { result ≡ count_by is_admitted outcomes.now }
-{
-    outcomes
-        .iter()
-        .filter(|outcome| is_admitted(outcome))
-        .count() as u64
-}
-
-fn count_unknown(outcomes: &[Outcome]) -> u64
-    ensures { result ≡ count_by is_unknown outcomes.now }
-{
-    outcomes
-        .iter()
-        .filter(|outcome| is_unknown(outcome))
-        .count() as u64
-}
-
-fn count_early(outcomes: &[Outcome]) -> u64
-    ensures { result ≡ count_by is_early outcomes.now }
-{
-    outcomes.iter().filter(|outcome| is_early(outcome)).count() as u64
-}
-
-fn count_ahead(outcomes: &[Outcome]) -> u64
-    ensures { result ≡ count_by is_ahead outcomes.now }
-{
-    outcomes.iter().filter(|outcome| is_ahead(outcome)).count() as u64
-}
-
-fn count_not_plots(outcomes: &[Outcome]) -> u64
-    ensures { result ≡ count_by is_not_plot outcomes.now }
-{
-    outcomes
-        .iter()
-        .filter(|outcome| is_not_plot(outcome))
-        .count() as u64
-}
-
-// Counts what was told of the messages of a datagram.
-fn count_outcomes(counts: &mut Counts, outcomes: &[Outcome])
-    ensures { counts.exit.now ≡ with_outcomes outcomes.now counts.entry.now }
-{
-    counts.admitted = more(counts.admitted, count_admitted(outcomes));
-    counts.unknown = more(counts.unknown, count_unknown(outcomes));
-    counts.early = more(counts.early, count_early(outcomes));
-    counts.ahead = more(counts.ahead, count_ahead(outcomes));
-    counts.not_plots = more(counts.not_plots, count_not_plots(outcomes));
-}
-
-// How many blocks the last event of a log passed over.
-fn others_in_last(log: &Log) -> u64
-    ensures { (front : List Event) (event : Event) → log.now.events ≡ front ++ event ∷ [] → result ≡ others_in event }
-{
-    match log.events().last() {
-        Some(Event::Deliver { other, .. }) => u64::from(*other),
-        _ => 0,
-    }
 }
 
 impl Run {
@@ -185,10 +87,10 @@ fn write_edition<H: Host>(
 ) -> Result<(), Status>
     requires last { time ≡ last_of log.now }
     requires bound { IsBoundFor Way.Write (H.state host.old) Place.Output }
-    ensures ok { OnOk result (WritesEdition settings.now log.now time (H.state host.old) (H.state host.new)) }
+    ensures ok { OnOk result (WritesEdition settings.now log.now (H.state host.old) (H.state host.new)) }
     ensures kept { OnOk result ((H.state host.new).faults Place.Output ≡ (H.state host.old).faults Place.Output) }
     ensures stops { IfErr result (λ s. StopsWriting s (H.state host.old) (H.state host.new)) }
-    ensures front { OnErr result (BreaksEdition settings.now log.now time (H.state host.old) (H.state host.new)) }
+    ensures front { OnErr result (BreaksEdition settings.now log.now (H.state host.old) (H.state host.new)) }
     ensures uses { WritesOnly Place.Output (H.state host.old) (H.state host.new) }
 {
     let Ok(datagrams) = edition_of(alloc, settings, log, time) else {
@@ -203,7 +105,7 @@ fn write_edition<H: Host>(
 // The edition of a log at its last tick.
 fn edition_of(alloc: Global, settings: &Settings, log: &Log, time: u64) -> Result<Vec<u8>, NoMemory>
     requires { time ≡ last_of log.now }
-    ensures { IfOk result (λ v. IsEdition settings.now log.now time v.items) }
+    ensures { IfOk result (λ v. IsEdition settings.now log.now v.items) }
 {
     let plots = plots_of(alloc, settings, log, time)?;
     edition(alloc, settings, time, &plots)

@@ -1,6 +1,6 @@
 // What the screen says at the end of a command.
 ghost use Rattle.std.specs.Prelude.{◌≡◌, IfOk, string_bytes};
-ghost use Rattle.tracker_session.specs.Screen.{counts_line, no_counts, plots_text, others_text, key_line, settings_line, spot_line, status_line};
+ghost use Rattle.tracker_session.specs.Screen.{counts_line, no_counts, plots_text, others_text, key_line, proved_line, settings_line, spot_line, status_line};
 
 use crate::status::{Spot, Status};
 use settings_text::{KeyPath, SettingsFault};
@@ -86,6 +86,13 @@ fn others_text(alloc: Global, counts: &Counts) -> Result<String, AllocError>
     format!(in alloc; "notplots {not_plots} malformed {malformed} other {other} old {old}")
 }
 
+/// The line of a price file whose certificates, so many, all prove.
+pub fn proved_line(alloc: Global, count: u64) -> Result<String, AllocError>
+    ensures { IfOk result (λ s. string_bytes s ≡ proved_line count) }
+{
+    format!(in alloc; "certificates {count} proved\n")
+}
+
 /// The line that tells how a command ended. Where all was done there is none.
 pub fn status_line(alloc: Global, status: &Status) -> Result<String, AllocError>
     ensures { IfOk result (λ s. string_bytes s ≡ status_line status.now) }
@@ -101,6 +108,9 @@ pub fn status_line(alloc: Global, status: &Status) -> Result<String, AllocError>
         Status::Read(spot) => spot_line(alloc, "read", *spot),
         Status::Write(spot) => spot_line(alloc, "write", *spot),
         Status::Memory => String::from_str(alloc, "no memory\n"),
+        Status::NotProved { index, offset } => {
+            format!(in alloc; "not proved: certificate {index} at offset {offset}\n")
+        }
     }
 }
 

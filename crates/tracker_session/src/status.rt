@@ -34,6 +34,9 @@ pub enum Status {
     Write(Spot),
     /// Memory is wanting.
     Memory,
+    /// A certificate doesn't prove its pairing: the first such, counted from 0, and the offset of
+    /// its record's first octet in the price file.
+    NotProved { index: u64, offset: usize },
 }
 
 impl Status {
@@ -51,6 +54,7 @@ impl Status {
             Status::Read(_) => 4,
             Status::Write(_) => 5,
             Status::Memory => 6,
+            Status::NotProved { .. } => 8,
         }
     }
 }

@@ -1,6 +1,6 @@
 // The words of the command line.
-ghost use Rattle.std.specs.Prelude.{IfOk, IfSome, IsErrOf, IsTrue};
-ghost use Rattle.tracker_session.specs.Words.{AreReplay, HasNames, IsCommand, IsName, texts};
+ghost use Rattle.std.specs.Prelude.{◌∷◌, [], IfOk, IfSome, IsErrOf, IsTrue};
+ghost use Rattle.tracker_session.specs.Words.{AreCommand, HasNames, IsCommand, IsName, texts};
 
 use std::alloc::Global;
 
@@ -20,6 +20,11 @@ pub enum Command {
         /// How many workers share the work, from 1 to 16.
         workers: u8,
     },
+    /// `check PRICES`: judges the certificates of a price file.
+    Check {
+        /// The name of the prices.
+        prices: String,
+    },
 }
 
 /// Why words are no command.
@@ -38,21 +43,54 @@ fn is_name(word: &str) -> bool
     !matches!(word.as_bytes(), [] | [b'-', b'-', ..])
 }
 
-/// The command that the words are: `replay` and four names. A name isn't empty and doesn't begin with two dashes.
+/// The command that the words are: `replay` and four names, or `check` and one. A name isn't empty and
+/// doesn't begin with two dashes.
 ///
 /// `Usage` comes exactly for other words.
 pub fn parse_words(alloc: Global, words: &[String]) -> Result<Command, WordsError>
     ensures command { IfOk result (λ command. IsCommand (texts words.now) command) }
-    ensures usage { IsErrOf result WordsError.Usage → AreReplay (texts words.now) → ⊥ }
+    ensures usage { IsErrOf result WordsError.Usage → AreCommand (texts words.now) → ⊥ }
 {
-    let [command, settings, input, output, prices] = words else {
+    match words {
+        [command, prices] => parse_check(alloc, command.as_str(), prices.as_str()),
+        [command, settings, input, output, prices] => parse_replay(
+            alloc,
+            command.as_str(),
+            settings.as_str(),
+            input.as_str(),
+            output.as_str(),
+            prices.as_str(),
+        ),
+        _ => Err(WordsError::Usage),
+    }
+}
+
+// The command of two words.
+fn parse_check(alloc: Global, command: &str, prices: &str) -> Result<Command, WordsError>
+    ensures command { IfOk result (λ it. IsCommand (command.now ∷ prices.now ∷ []) it) }
+    ensures usage { IsErrOf result WordsError.Usage → AreCommand (command.now ∷ prices.now ∷ []) → ⊥ }
+{
+    if command != "check" || !is_name(prices) {
         return Err(WordsError::Usage);
-    };
-    let command = command.as_str();
-    let settings = settings.as_str();
-    let input = input.as_str();
-    let output = output.as_str();
-    let prices = prices.as_str();
+    }
+    match String::from_str(alloc, prices) {
+        Ok(prices) => Ok(Command::Check { prices }),
+        Err(_) => Err(WordsError::NoMemory),
+    }
+}
+
+// The command of five words.
+fn parse_replay(
+    alloc: Global,
+    command: &str,
+    settings: &str,
+    input: &str,
+    output: &str,
+    prices: &str,
+) -> Result<Command, WordsError>
+    ensures command { IfOk result (λ it. IsCommand (command.now ∷ settings.now ∷ input.now ∷ output.now ∷ prices.now ∷ []) it) }
+    ensures usage { IsErrOf result WordsError.Usage → AreCommand (command.now ∷ settings.now ∷ input.now ∷ output.now ∷ prices.now ∷ []) → ⊥ }
+{
     if command == "replay"
         && is_name(settings)
         && is_name(input)
@@ -76,7 +114,7 @@ fn replay_of(
     output: &str,
     prices: &str,
 ) -> Option<Command>
-    ensures { IfSome result (λ command. HasNames settings.now input.now output.now prices.now command) }
+    ensures { IfSome result (λ it. HasNames settings.now input.now output.now prices.now it) }
 {
     let Ok(settings) = String::from_str(alloc, settings) else {
         return None;

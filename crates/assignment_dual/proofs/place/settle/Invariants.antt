@@ -1,5 +1,5 @@
 use Rattle.std.proofs.Common.{◌≡◌, ◌-◌, get_or}
-use Rattle.assignment_dual.proofs.Shifts.{Settling}
+use Rattle.assignment_dual.proofs.Settling.{Settling}
 use Rattle.assignment_dual.proofs.place.settle.Given as goal
 
 abbrev pub invariant-rounds : goal.invariant-rounds

@@ -1,14 +1,17 @@
-use Rattle.std.proofs.Common.{arith}
-use Rattle.assignment_dual.proofs.Shifts.{roomy_more, less_room}
+use Rattle.std.proofs.Common.{◌≤◌, ℕ, inl, inr, arith, refl, subst}
+use Rattle.assignment_dual.specs.Search.{mate_at}
+use Rattle.assignment_dual.specs.Rising.{HasRoom}
+use Rattle.assignment_dual.proofs.Shifts.{roomy_more}
 use Rattle.assignment_dual.proofs.raise.least_room.Goals as goal
-use Rattle.assignment_dual.proofs.raise.least_room.Goals.{then-rises+then-free-least, then-rises+else-free-least, else-rises}
+use Rattle.assignment_dual.proofs.raise.least_room.Goals.{then-free-least, else-free-least}
 
-pub loop-v-preserved : goal.loop-v-preserved
-loop-v-preserved c = elim c.if-rises.branch [
-  | then-rises+then-free-least w ↦ rw w.least-is (roomy_more c.loop-v.invariant w.room-free.ensures.some (omega arith) (λ r. w.room-free.ensures.room))
-  | then-rises+else-free-least w ↦ rw w.least-is (roomy_more c.loop-v.invariant c.loop-v.invariant.some (omega arith) (λ r. less_room w.room-free.ensures.room (omega arith)))
-  | else-rises w ↦ rw w.least-is (roomy_more c.loop-v.invariant c.loop-v.invariant.some (omega arith) (λ r. absurd (w.if-rises.ensures.answer r)))
-]
-
-pub returns-clause-room : goal.returns-clause-room
-returns-clause-room c = record { room = λ v h r. c.loop-v.invariant.room v (omega arith) r }
+pub loop-i-preserved : goal.loop-i-preserved
+loop-i-preserved c =
+    let room : HasRoom c.args.graph.now c.args.prices.now c.args.seen.now (mate_at c.args.mates.now c.args.tree.now c.loop-i.i) c.room-free.result =
+    subst (λ (o : ℕ). HasRoom c.args.graph.now c.args.prices.now c.args.seen.now o c.room-free.result) c.mate_of.ensures c.room-free.ensures.room in
+    let most : (d : ℕ) → HasRoom c.args.graph.now c.args.prices.now c.args.seen.now (mate_at c.args.mates.now c.args.tree.now c.loop-i.i) d → d ≤ c.room-free.result =
+    subst (λ (o : ℕ). (d : ℕ) → HasRoom c.args.graph.now c.args.prices.now c.args.seen.now o d → d ≤ c.room-free.result) c.mate_of.ensures c.room-free.ensures.greatest in
+    elim c.if-free-least.branch [
+      | then-free-least w ↦ rw w.least-is (roomy_more c.loop-i.invariant c.loop-i-test.true room most c.room-free.ensures.some (omega (arith, w.if-free-least.true)) (omega arith) (inr refl))
+      | else-free-least w ↦ rw w.least-is (roomy_more c.loop-i.invariant c.loop-i-test.true room most c.loop-i.invariant.some (omega arith) (omega (arith, w.if-free-least.false)) (inl refl))
+    ]

@@ -1,4 +1,4 @@
-use Rattle.std.proofs.Common.{◌≡◌, ◌<◌, arith, get_or, length, ap, sym, subst, ℕ}
+use Rattle.std.proofs.Common.{◌≡◌, arith, get_or, length, ap}
 use Rattle.assignment_dual.specs.declared.graph.Arc.{Arc}
 use Rattle.assignment_dual.specs.Vertices.{IsArc, to_of, cost_at}
 use Rattle.assignment_dual.proofs.Columns.{arc_read}
@@ -12,11 +12,6 @@ overflow_add-result c =
     let a : IsArc c.args.graph.now (length c.args.prices.now) c.args.x c.args.k = c.requires.graph.arcs c.args.x c.args.k c.requires.x c.requires.arc in
     let e : c.index-arc.result.now.cost ≡ cost_at c.args.graph.now c.args.k = ap (λ (r : Arc). r.cost) (arc_read c.args.graph.now c.args.k c.index-arc.result.now a.inside c.index-arc.ensures) in
     omega (arith, e, a.cost)
-
-pub bounds-prices-arc : goal.bounds-prices-arc
-bounds-prices-arc c =
-    let a : IsArc c.args.graph.now (length c.args.prices.now) c.args.x c.args.k = c.requires.graph.arcs c.args.x c.args.k c.requires.x c.requires.arc in
-    subst (λ (i : ℕ). i < length c.args.prices.now) (sym (ap (λ (r : Arc). r.to) (arc_read c.args.graph.now c.args.k c.index-arc.result.now a.inside c.index-arc.ensures))) a.to
 
 pub overflow_sub-result : goal.overflow_sub-result
 overflow_sub-result c =

@@ -6,4 +6,4 @@ pub loop-i-init : goal.loop-i-init
 loop-i-init c = none_yet edge_numbers_at 10 c.args.octets.now c.args.at c.in_ok-edges.ensures.items
 
 pub loop-i-preserved : goal.loop-i-preserved
-loop-i-preserved c = one_more edge_numbers_at 10 c.args.octets.now c.args.at c.loop-i.i c.loop-i.invariant (λ j. (c.half_at.ensures j, c.half_at-in-loop-i.ensures j, c.short_at.ensures j)) c.in_ok-push.ensures.items
+loop-i-preserved c = one_more edge_numbers_at 10 c.args.octets.now c.args.at c.loop-i.i c.loop-i.invariant c.edge_at.ensures c.in_ok-push.ensures.items

@@ -1,6 +1,6 @@
 use Rattle.std.proofs.Common.{◌≡◌, true, false, subst, refl, rules, arith}
 use Rattle.toml.specs.View.{table_view}
-use Rattle.settings_text.specs.declared.keys.TheConstants.{SYSTEM_KEYS}
+use Rattle.settings_text.specs.Keys.{system_keys}
 use Rattle.settings_text.specs.Documents.{is_known}
 use Rattle.settings_text.specs.Answers.{Repeats, unknown_key, duplicate}
 use Rattle.settings_text.proofs.Ranges.{gives_within}
@@ -25,4 +25,4 @@ returns-in-Some-clause-err c =
     duplicate right known c.in-Some.radar c.in-Some.first (record { radars = c.in_ok-radars.radars.items; are_radars = c.in_ok-radars.ensures.ok; repeats = repeats }) refl
 
 pub settings_of-requires-clause-within : goal.settings_of-requires-clause-within
-settings_of-requires-clause-within c = gives_within c.in_ok-system.ensures.ok.table SYSTEM_KEYS c.in_ok-system.system refl c.in_ok-system.ensures.ok.gives
+settings_of-requires-clause-within c = gives_within c.in_ok-system.ensures.ok.table system_keys c.in_ok-system.system refl c.in_ok-system.ensures.ok.gives

@@ -1,7 +1,7 @@
 use Rattle.std.proofs.Common.{◌≡◌, ◌∙◌, ◌≤◌, ℤ, pos, negsuc, ◌≤ℤ◌, [], ◌∷◌, sym, subst, w16, w32, to_z, of_z, arith, lit<}
 use Rattle.std.specs.Prelude.{FitsSigned, unsigned_abs}
 use Rattle.std.proofs.lemmas.Int.{to_z-of_z, ints}
-use Rattle.settings_text.specs.declared.keys.TheConstants.{RADAR_KEYS}
+use Rattle.settings_text.specs.Keys.{radar_keys}
 use Rattle.settings_text.proofs.Ranges.{blank, range_at, by_place}
 use Rattle.settings_text.proofs.radars.radar_settings.Goals as goal
 
@@ -14,75 +14,75 @@ kept16 result number fits same = to_z-of_z w16 result fits ∙ same
 
 pub to_u8-requires : goal.to_u8-requires
 to_u8-requires c =
-    let range = range_at RADAR_KEYS c.args.numbers.now 0 blank c.requires (lit< tt) in
+    let range = range_at radar_keys c.args.numbers.now 0 blank c.requires (lit< tt) in
     (omega (arith, ints), omega (arith, ints))
 
 pub to_u8-requires-2 : goal.to_u8-requires-2
 to_u8-requires-2 c =
-    let range = range_at RADAR_KEYS c.args.numbers.now 1 blank c.requires (lit< tt) in
+    let range = range_at radar_keys c.args.numbers.now 1 blank c.requires (lit< tt) in
     (omega (arith, ints), omega (arith, ints))
 
 pub to_i32-requires : goal.to_i32-requires
 to_i32-requires c =
-    let range = range_at RADAR_KEYS c.args.numbers.now 2 blank c.requires (lit< tt) in
+    let range = range_at radar_keys c.args.numbers.now 2 blank c.requires (lit< tt) in
     (omega (arith, ints), omega (arith, ints))
 
 pub to_i32-requires-2 : goal.to_i32-requires-2
 to_i32-requires-2 c =
-    let range = range_at RADAR_KEYS c.args.numbers.now 3 blank c.requires (lit< tt) in
+    let range = range_at radar_keys c.args.numbers.now 3 blank c.requires (lit< tt) in
     (omega (arith, ints), omega (arith, ints))
 
 pub to_i16-requires : goal.to_i16-requires
 to_i16-requires c =
-    let range = range_at RADAR_KEYS c.args.numbers.now 4 blank c.requires (lit< tt) in
+    let range = range_at radar_keys c.args.numbers.now 4 blank c.requires (lit< tt) in
     (omega (arith, ints), omega (arith, ints))
 
 pub to_u16-requires : goal.to_u16-requires
 to_u16-requires c =
-    let range = range_at RADAR_KEYS c.args.numbers.now 5 blank c.requires (lit< tt) in
+    let range = range_at radar_keys c.args.numbers.now 5 blank c.requires (lit< tt) in
     (omega (arith, ints), omega (arith, ints))
 
 pub to_i16-requires-2 : goal.to_i16-requires-2
 to_i16-requires-2 c =
-    let range = range_at RADAR_KEYS c.args.numbers.now 6 blank c.requires (lit< tt) in
+    let range = range_at radar_keys c.args.numbers.now 6 blank c.requires (lit< tt) in
     (omega (arith, ints), omega (arith, ints))
 
 pub to_i16-requires-3 : goal.to_i16-requires-3
 to_i16-requires-3 c =
-    let range = range_at RADAR_KEYS c.args.numbers.now 7 blank c.requires (lit< tt) in
+    let range = range_at radar_keys c.args.numbers.now 7 blank c.requires (lit< tt) in
     (omega (arith, ints), omega (arith, ints))
 
 pub to_i16-requires-4 : goal.to_i16-requires-4
 to_i16-requires-4 c =
-    let range = range_at RADAR_KEYS c.args.numbers.now 8 blank c.requires (lit< tt) in
+    let range = range_at radar_keys c.args.numbers.now 8 blank c.requires (lit< tt) in
     (omega (arith, ints), omega (arith, ints))
 
 pub to_i16-requires-5 : goal.to_i16-requires-5
 to_i16-requires-5 c =
-    let range = range_at RADAR_KEYS c.args.numbers.now 9 blank c.requires (lit< tt) in
+    let range = range_at radar_keys c.args.numbers.now 9 blank c.requires (lit< tt) in
     (omega (arith, ints), omega (arith, ints))
 
 pub to_u16-requires-2 : goal.to_u16-requires-2
 to_u16-requires-2 c =
-    let range = range_at RADAR_KEYS c.args.numbers.now 10 blank c.requires (lit< tt) in
+    let range = range_at radar_keys c.args.numbers.now 10 blank c.requires (lit< tt) in
     (omega (arith, ints), omega (arith, ints))
 
 pub to_u16-requires-3 : goal.to_u16-requires-3
 to_u16-requires-3 c =
-    let range = range_at RADAR_KEYS c.args.numbers.now 11 blank c.requires (lit< tt) in
+    let range = range_at radar_keys c.args.numbers.now 11 blank c.requires (lit< tt) in
     (omega (arith, ints), omega (arith, ints))
 
 pub invariant_of-result : goal.invariant_of-result
 invariant_of-result c =
-    let x = range_at RADAR_KEYS c.args.numbers.now 2 blank c.requires (lit< tt) in
-    let y = range_at RADAR_KEYS c.args.numbers.now 3 blank c.requires (lit< tt) in
-    let height = range_at RADAR_KEYS c.args.numbers.now 4 blank c.requires (lit< tt) in
-    let range_gain = range_at RADAR_KEYS c.args.numbers.now 6 blank c.requires (lit< tt) in
-    let range_bias = range_at RADAR_KEYS c.args.numbers.now 7 blank c.requires (lit< tt) in
-    let azimuth_bias = range_at RADAR_KEYS c.args.numbers.now 8 blank c.requires (lit< tt) in
-    let time_bias = range_at RADAR_KEYS c.args.numbers.now 9 blank c.requires (lit< tt) in
-    let range_sigma = range_at RADAR_KEYS c.args.numbers.now 10 blank c.requires (lit< tt) in
-    let azimuth_sigma = range_at RADAR_KEYS c.args.numbers.now 11 blank c.requires (lit< tt) in
+    let x = range_at radar_keys c.args.numbers.now 2 blank c.requires (lit< tt) in
+    let y = range_at radar_keys c.args.numbers.now 3 blank c.requires (lit< tt) in
+    let height = range_at radar_keys c.args.numbers.now 4 blank c.requires (lit< tt) in
+    let range_gain = range_at radar_keys c.args.numbers.now 6 blank c.requires (lit< tt) in
+    let range_bias = range_at radar_keys c.args.numbers.now 7 blank c.requires (lit< tt) in
+    let azimuth_bias = range_at radar_keys c.args.numbers.now 8 blank c.requires (lit< tt) in
+    let time_bias = range_at radar_keys c.args.numbers.now 9 blank c.requires (lit< tt) in
+    let range_sigma = range_at radar_keys c.args.numbers.now 10 blank c.requires (lit< tt) in
+    let azimuth_sigma = range_at radar_keys c.args.numbers.now 11 blank c.requires (lit< tt) in
     record {
       x_range = subst (λ z. unsigned_abs z ≤ 1000000) (sym (kept32 c.to_i32.result _ (record { sfits = c.to_i32.type_inv }) c.to_i32.ensures)) (omega (arith, ints));
       y_range = subst (λ z. unsigned_abs z ≤ 1000000) (sym (kept32 c.to_i32-2.result _ (record { sfits = c.to_i32-2.type_inv }) c.to_i32-2.ensures)) (omega (arith, ints));

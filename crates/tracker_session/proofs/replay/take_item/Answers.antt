@@ -1,7 +1,7 @@
 use Rattle.std.proofs.Common.{rules, ◌≡◌, ap, sym, subst, Result, Ok, Err, true, false}
-use Rattle.std.specs.Prelude.{OnErr}
+use Rattle.std.specs.Prelude.{OnErr, OnOk}
 use Rattle.recording.specs.Answers.{item_of}
-use Rattle.recording.specs.Items.{Item, tick}
+use Rattle.recording.specs.Items.{Item, datagram, tick}
 use Rattle.tracker_session.specs.Steps.{Breaks, Takes}
 use Rattle.tracker_session.proofs.Stepping.{silently, tick_takes, tick_breaks, last_ticked}
 use Rattle.tracker_session.proofs.replay.take_item.Goals as goal
@@ -9,6 +9,19 @@ use Rattle.tracker_session.proofs.replay.take_item.Goals as goal
 on_err : {T E P : Type 0} (r : Result T E) → P → OnErr r P
 on_err (Ok v) p = tt
 on_err (Err e) p = p
+
+on_ok : {T E P Q : Type 0} (r : Result T E) → (P → Q) → OnOk r P → OnOk r Q
+on_ok (Ok v) f p = f p
+on_ok (Err e) f p = tt
+
+pub returns-in-Datagram-clause-taken : goal.returns-in-Datagram-clause-taken
+returns-in-Datagram-clause-taken g c =
+    let host = g.H.Host.state c.args.host.now in
+    let feed = c.in-Datagram.feed in
+    let octets = c.in-Datagram.bytes.now in
+    let item = ap item_of c.in-Datagram.is in
+    subst (λ (i : Item). OnOk c.admit.result (Takes c.args.settings.now i c.args.run.now c.admit.new.self host host)) (sym item)
+    (on_ok c.admit.result (silently c.args.settings.now (datagram feed octets) c.args.run.now c.admit.new.self host) c.admit.ensures.taken)
 
 pub write_edition-requires-clause-last : goal.write_edition-requires-clause-last
 write_edition-requires-clause-last g c =

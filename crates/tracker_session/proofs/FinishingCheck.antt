@@ -1,0 +1,221 @@
+-- The end of a check of a price file: what came of it, and what Screen got.
+use Rattle.std.proofs.Common.{◌≡◌, ◌≢◌, ◌∙◌, ap, sym, refl, subst, inl, inr, ℕ, ◌≤◌, ◌⊎◌, List, length, arith}
+use Rattle.std.specs.Prelude.{Option, Result, Ok, Err}
+use Rattle.std.specs.Io.KnownBytes.{Appends}
+use Rattle.io_traits.specs.Host.{HostState, IsEmpty, WritesOnly}
+use Rattle.io_traits.specs.declared.host.Place.TheVariants as places
+use Rattle.io_traits.specs.declared.host.Way.{Way}
+use Rattle.io_traits.specs.declared.host.Way.TheVariants as ways
+use Rattle.tracker_session.specs.declared.status.Spot.{Spot}
+use Rattle.tracker_session.specs.declared.status.Spot.TheVariants as spots
+use Rattle.tracker_session.specs.declared.status.Status.{Status}
+use Rattle.tracker_session.specs.declared.status.Status.TheVariants.{Done, Usage, Settings, Input, Read, Write, Memory, NotProved}
+use Rattle.tracker_session.specs.Checking.{Verdict, Checks, proved, fails, fault}
+use Rattle.tracker_session.specs.CheckEnds.{CheckCause, EndOfCheck, IsVerdict, PricesBound, Says, UsesPricesAndScreen, status_of}
+use Rattle.tracker_session.specs.CheckRuns.{CheckRan, WasJudged}
+use Rattle.tracker_session.specs.Ends.{NoFailure}
+use Rattle.tracker_session.specs.Inputs.{limit}
+use Rattle.tracker_session.specs.Places.{Has, BoundAtMost, PlaceRead, StopsReading, UsesRead}
+use Rattle.tracker_session.specs.Screen.{proved_line, status_line}
+use Rattle.tracker_session.specs.Telling.{LineTold, Told, ToldAtEnd}
+use Rattle.tracker_session.proofs.Frames.{later_of, later_written}
+use Rattle.tracker_session.proofs.Outcomes.{read_alike, whole_read}
+use Rattle.tracker_session.proofs.Telling.{behind_up, failed_still, line_failed, told_line, told_up}
+use Rattle.tracker_session.proofs.Verdicts.{checks_alike, one_verdict}
+
+prices_screen : places.Prices ≢ places.Screen
+prices_screen e = cc
+
+screen_prices : places.Screen ≢ places.Prices
+screen_prices e = cc
+
+statuses_same : (s t : Status) → ◌≡◌ {A = Result ℕ Status} (Err s) (Err t) → s ≡ t
+statuses_same s t e = cc
+
+never_both : {count : ℕ} {s : Status} → ◌≡◌ {A = Result ℕ Status} (Ok count) (Err s) → ⊥
+never_both e = cc
+
+uses_both : (old mid new : HostState) → UsesRead places.Prices old mid → WritesOnly places.Screen mid new → UsesPricesAndScreen old new
+uses_both old mid new u only = record {
+  bound = λ p other. only.bound p ∙ u.others.bound p other;
+  left = λ p other. only.left p ∙ u.others.left p other;
+  got = λ p other. only.got p other ∙ u.got p;
+  faults = λ p other screen. only.faults p screen ∙ u.others.faults p other;
+  later = λ p. omega (arith, later_of places.Prices old mid u.others p, later_written places.Screen mid new only p);
+}
+
+bound_still : (prices : List ℕ) (mid new : HostState) → WritesOnly places.Screen mid new → BoundAtMost (mid.bound places.Prices) ways.Read prices → BoundAtMost (new.bound places.Prices) ways.Read prices
+bound_still prices mid new only h = subst (λ (b : Option (Way × List ℕ)). BoundAtMost b ways.Read prices) (sym (only.bound places.Prices)) h
+
+prices_bound : (prices octets : List ℕ) (old mid new : HostState) → PlaceRead places.Prices octets prices old mid → WritesOnly places.Screen mid new → PricesBound prices old new
+prices_bound prices octets old mid new read only = record { bound = only.bound places.Prices ∙ read.bound; faults = only.faults places.Prices prices_screen ∙ read.faults }
+
+read_whole : (prices octets all : List ℕ) (old mid new : HostState) → PlaceRead places.Prices octets prices old mid → WritesOnly places.Screen mid new → Has places.Prices old all → length all ≤ limit → IsEmpty (new.left places.Prices)
+read_whole prices octets all old mid new read only has short = subst IsEmpty (sym (only.left places.Prices)) (whole_read places.Prices octets prices all old mid read has short)
+
+-- ---- all certificates prove
+
+was_judged : (prices : List ℕ) (count : ℕ) (old mid : HostState) → CheckRan prices (Ok count) old mid → WasJudged prices (Ok count) old mid
+was_judged prices count old mid ran = elim ran.came [
+  | inl broke ↦ absurd (never_both broke.is)
+  | inr judged ↦ judged
+]
+
+done_says : (all : List ℕ) (count : ℕ) (t : Status) (old mid new : HostState) → mid.got places.Screen ≡ old.got places.Screen → mid.faults places.Screen ≡ old.faults places.Screen → Checks all (proved count) → LineTold (proved_line count) t mid new → Says all t old new
+done_says all count Done old mid new got faults h told = (count, h, subst (λ (g : Option (List ℕ)). Appends g (new.got places.Screen) (proved_line count)) got told.0)
+done_says all count (Write spot) old mid new got faults h told = subst (λ (x : Spot). Says all (Write x) old new) (sym told.0) (count, h, behind_up (proved_line count) (status_line (Write spots.Screen)) old mid new got faults told.1)
+done_says all count Memory old mid new got faults h told = tt
+done_says all count Usage old mid new got faults h told = tt
+done_says all count (Settings f) old mid new got faults h told = tt
+done_says all count (Input offset) old mid new got faults h told = absurd told
+done_says all count (Read spot) old mid new got faults h told = tt
+done_says all count (NotProved i o) old mid new got faults h told = absurd told
+
+done_complete : (all : List ℕ) (count : ℕ) (v : Verdict) (t : Status) (old mid new : HostState) → mid.faults places.Screen ≡ old.faults places.Screen → Checks all (proved count) → LineTold (proved_line count) t mid new → Checks all v → NoFailure old new → t ≢ Memory → t ≡ status_of v
+done_complete all count v Done old mid new faults h told k none memory = ap status_of (one_verdict all (proved count) v h k)
+done_complete all count v (Write spot) old mid new faults h told k none memory = absurd (none places.Screen (line_failed old mid new faults told.1.failed))
+done_complete all count v Memory old mid new faults h told k none memory = absurd (memory refl)
+done_complete all count v Usage old mid new faults h told k none memory = absurd told
+done_complete all count v (Settings f) old mid new faults h told k none memory = absurd told
+done_complete all count v (Input offset) old mid new faults h told k none memory = absurd told
+done_complete all count v (Read spot) old mid new faults h told k none memory = absurd told
+done_complete all count v (NotProved i o) old mid new faults h told k none memory = absurd told
+
+done_cause : (line : List ℕ) (t : Status) (old mid new : HostState) → mid.faults places.Screen ≡ old.faults places.Screen → LineTold line t mid new → CheckCause t old new
+done_cause line Done old mid new faults told = tt
+done_cause line (Write spot) old mid new faults told = (told.0, line_failed old mid new faults told.1.failed)
+done_cause line Memory old mid new faults told = tt
+done_cause line Usage old mid new faults told = told
+done_cause line (Settings f) old mid new faults told = told
+done_cause line (Input offset) old mid new faults told = absurd told
+done_cause line (Read spot) old mid new faults told = absurd told
+done_cause line (NotProved i o) old mid new faults told = absurd told
+
+pub check_done : (prices : List ℕ) (count : ℕ) (t : Status) (old mid new : HostState) → CheckRan prices (Ok count) old mid → LineTold (proved_line count) t mid new → WritesOnly places.Screen mid new → EndOfCheck prices t old new
+check_done prices count t old mid new ran told only =
+    let w = was_judged prices count old mid ran in
+    let got = ran.uses.got places.Screen in
+    let faults = ran.uses.others.faults places.Screen screen_prices in
+    let judged = λ (all : List ℕ) (has : Has places.Prices old all). checks_alike w.octets all (proved count) (read_alike places.Prices w.octets prices all old mid w.read has) w.judged in
+    record {
+      verdict = λ all has. done_says all count t old mid new got faults (judged all has) told;
+      complete = λ all v has k none memory. done_complete all count v t old mid new faults (judged all has) told k none memory;
+      cause = done_cause (proved_line count) t old mid new faults told;
+      bound = bound_still prices mid new only ran.bound;
+      faultless = λ is. prices_bound prices w.octets old mid new w.read only;
+      whole = λ is all has short. read_whole prices w.octets all old mid new w.read only has short;
+      screen = told_line proved_line count t old mid new got faults told;
+      uses = uses_both old mid new ran.uses only;
+    }
+
+-- ---- another status
+
+came : (prices : List ℕ) (s : Status) (old mid : HostState) → CheckRan prices (Err s) old mid → StopsReading places.Prices s old mid ⊎ WasJudged prices (Err s) old mid
+came prices s old mid ran = elim ran.came [
+  | inl broke ↦ inl (subst (λ (x : Status). StopsReading places.Prices x old mid) (sym (statuses_same s broke.status broke.is)) broke.stops)
+  | inr judged ↦ inr judged
+]
+
+other_says : (prices all : List ℕ) (s : Status) (old mid new : HostState) → StopsReading places.Prices s old mid ⊎ WasJudged prices (Err s) old mid → Has places.Prices old all → Says all s old new
+other_says prices all (NotProved i o) old mid new (inr w) has = checks_alike w.octets all (fails i o) (read_alike places.Prices w.octets prices all old mid w.read has) w.judged
+other_says prices all (Input offset) old mid new (inr w) has = checks_alike w.octets all (fault offset) (read_alike places.Prices w.octets prices all old mid w.read has) w.judged
+other_says prices all (NotProved i o) old mid new (inl h) has = absurd h
+other_says prices all (Input offset) old mid new (inl h) has = absurd h
+other_says prices all Done old mid new (inl h) has = absurd h
+other_says prices all Done old mid new (inr w) has = absurd w.judged
+other_says prices all (Write spot) old mid new (inl h) has = absurd h
+other_says prices all (Write spot) old mid new (inr w) has = absurd w.judged
+other_says prices all Usage old mid new h has = tt
+other_says prices all (Settings f) old mid new h has = tt
+other_says prices all (Read spot) old mid new h has = tt
+other_says prices all Memory old mid new h has = tt
+
+other_complete : (prices all : List ℕ) (v : Verdict) (s : Status) (old mid new : HostState) → StopsReading places.Prices s old mid ⊎ WasJudged prices (Err s) old mid → WritesOnly places.Screen mid new → Has places.Prices old all → Checks all v → NoFailure old new → s ≢ Memory → s ≡ status_of v
+other_complete prices all v (NotProved i o) old mid new (inr w) only has k none memory = ap status_of (one_verdict all (fails i o) v (checks_alike w.octets all (fails i o) (read_alike places.Prices w.octets prices all old mid w.read has) w.judged) k)
+other_complete prices all v (Input offset) old mid new (inr w) only has k none memory = ap status_of (one_verdict all (fault offset) v (checks_alike w.octets all (fault offset) (read_alike places.Prices w.octets prices all old mid w.read has) w.judged) k)
+other_complete prices all v (Read spot) old mid new (inl h) only has k none memory = absurd (none places.Prices (failed_still places.Prices old mid new prices_screen only h.1))
+other_complete prices all v (Read spot) old mid new (inr w) only has k none memory = absurd w.judged
+other_complete prices all v Memory old mid new h only has k none memory = absurd (memory refl)
+other_complete prices all v (NotProved i o) old mid new (inl h) only has k none memory = absurd h
+other_complete prices all v (Input offset) old mid new (inl h) only has k none memory = absurd h
+other_complete prices all v Done old mid new (inl h) only has k none memory = absurd h
+other_complete prices all v Done old mid new (inr w) only has k none memory = absurd w.judged
+other_complete prices all v (Write spot) old mid new (inl h) only has k none memory = absurd h
+other_complete prices all v (Write spot) old mid new (inr w) only has k none memory = absurd w.judged
+other_complete prices all v Usage old mid new (inl h) only has k none memory = absurd h
+other_complete prices all v Usage old mid new (inr w) only has k none memory = absurd w.judged
+other_complete prices all v (Settings f) old mid new (inl h) only has k none memory = absurd h
+other_complete prices all v (Settings f) old mid new (inr w) only has k none memory = absurd w.judged
+
+other_cause : (prices : List ℕ) (s : Status) (old mid new : HostState) → StopsReading places.Prices s old mid ⊎ WasJudged prices (Err s) old mid → WritesOnly places.Screen mid new → CheckCause s old new
+other_cause prices (NotProved i o) old mid new h only = tt
+other_cause prices (Input offset) old mid new h only = tt
+other_cause prices (Read spot) old mid new (inl h) only = (h.0, failed_still places.Prices old mid new prices_screen only h.1)
+other_cause prices (Read spot) old mid new (inr w) only = absurd w.judged
+other_cause prices Memory old mid new h only = tt
+other_cause prices Done old mid new h only = tt
+other_cause prices (Write spot) old mid new (inl h) only = absurd h
+other_cause prices (Write spot) old mid new (inr w) only = absurd w.judged
+other_cause prices Usage old mid new (inl h) only = h
+other_cause prices Usage old mid new (inr w) only = w.judged
+other_cause prices (Settings f) old mid new (inl h) only = h
+other_cause prices (Settings f) old mid new (inr w) only = w.judged
+
+other_judged : (prices : List ℕ) (s : Status) (old mid : HostState) → StopsReading places.Prices s old mid ⊎ WasJudged prices (Err s) old mid → IsVerdict s → WasJudged prices (Err s) old mid
+other_judged prices s old mid (inr w) is = w
+other_judged prices (NotProved i o) old mid (inl h) is = absurd h
+other_judged prices (Input offset) old mid (inl h) is = absurd h
+other_judged prices Done old mid (inl h) is = absurd h
+other_judged prices (Write spot) old mid (inl h) is = absurd is
+other_judged prices Usage old mid (inl h) is = absurd is
+other_judged prices (Settings f) old mid (inl h) is = absurd is
+other_judged prices (Read spot) old mid (inl h) is = absurd is
+other_judged prices Memory old mid (inl h) is = absurd is
+
+other_told : (prices : List ℕ) (s : Status) (old mid new : HostState) → StopsReading places.Prices s old mid ⊎ WasJudged prices (Err s) old mid → Told (status_line s) old new → ToldAtEnd proved_line s old new
+other_told prices Done old mid new (inl h) told = absurd h
+other_told prices Done old mid new (inr w) told = absurd w.judged
+other_told prices (Write spot) old mid new (inl h) told = absurd h
+other_told prices (Write spot) old mid new (inr w) told = absurd w.judged
+other_told prices (NotProved i o) old mid new h told = told
+other_told prices (Input offset) old mid new h told = told
+other_told prices (Read spot) old mid new h told = told
+other_told prices Usage old mid new h told = told
+other_told prices (Settings f) old mid new h told = told
+other_told prices Memory old mid new h told = told
+
+check_told : (prices : List ℕ) (s : Status) (old mid new : HostState) → CheckRan prices (Err s) old mid → Told (status_line s) mid new → WritesOnly places.Screen mid new → EndOfCheck prices s old new
+check_told prices s old mid new ran told only =
+    let h = came prices s old mid ran in
+    let up = told_up (status_line s) old mid new (ran.uses.got places.Screen) (ran.uses.others.faults places.Screen screen_prices) told in
+    record {
+      verdict = λ all has. other_says prices all s old mid new h has;
+      complete = λ all v has k none memory. other_complete prices all v s old mid new h only has k none memory;
+      cause = other_cause prices s old mid new h only;
+      bound = bound_still prices mid new only ran.bound;
+      faultless = λ is. (let w = other_judged prices s old mid h is in prices_bound prices w.octets old mid new w.read only);
+      whole = λ is all has short. (let w = other_judged prices s old mid h is in read_whole prices w.octets all old mid new w.read only has short);
+      screen = other_told prices s old mid new h up;
+      uses = uses_both old mid new ran.uses only;
+    }
+
+-- memory is wanting for what Screen is to get, or was before
+pub check_memory : (prices : List ℕ) (old mid new : HostState) → BoundAtMost (mid.bound places.Prices) ways.Read prices → UsesRead places.Prices old mid → Told (status_line Memory) mid new → WritesOnly places.Screen mid new → EndOfCheck prices Memory old new
+check_memory prices old mid new bound uses told only = record {
+  verdict = λ all has. tt;
+  complete = λ all v has k none memory. absurd (memory refl);
+  cause = tt;
+  bound = bound_still prices mid new only bound;
+  faultless = λ is. absurd is;
+  whole = λ is. absurd is;
+  screen = told_up (status_line Memory) old mid new (uses.got places.Screen) (uses.others.faults places.Screen screen_prices) told;
+  uses = uses_both old mid new uses only;
+}
+
+-- the status that is told is that of the check, or memory is wanting
+pub check_status : (prices : List ℕ) (s t : Status) (old mid new : HostState) → CheckRan prices (Err s) old mid → (t ≡ s) ⊎ (t ≡ Memory) → Told (status_line t) mid new → WritesOnly places.Screen mid new → EndOfCheck prices t old new
+check_status prices s t old mid new ran (inl e) told only = subst (λ (x : Status). EndOfCheck prices x old new) (sym e) (check_told prices s old mid new ran (subst (λ (x : Status). Told (status_line x) mid new) e told) only)
+check_status prices s t old mid new ran (inr e) told only = subst (λ (x : Status). EndOfCheck prices x old new) (sym e) (check_memory prices old mid new ran.bound ran.uses (subst (λ (x : Status). Told (status_line x) mid new) e told) only)
+
+pub reads_nothing : (host : HostState) → UsesRead places.Prices host host
+reads_nothing host = record { others = record { bound = λ p other. refl; left = λ p other. refl; got = λ p other. refl; faults = λ p other. refl; later = omega arith }; got = λ p. refl }

@@ -1,0 +1,82 @@
+-- What is counted of the items of a replay and of their log.
+use Rattle.std.specs.Prelude.{◌^◌, ◌-◌, ℕ, min, Bool, true, false, List, count_by}
+use Rattle.std.specs.List.{flat_map, sum_by}
+use Rattle.recording.specs.Items.{Item, datagram, tick}
+use Rattle.admission_log.specs.declared.events.Event.{Event}
+use Rattle.admission_log.specs.declared.events.Event.TheVariants.{Deliver, Tick}
+use Rattle.admission_log.specs.declared.events.Outcome.{Outcome}
+use Rattle.admission_log.specs.declared.events.Outcome.TheVariants as outcomes
+use Rattle.admission_log.specs.Histories.{History}
+use Rattle.admission_log.specs.Deliveries.{outcomes_in}
+use Rattle.tracker_session.specs.declared.screen.Counts.{Counts}
+
+-- ---- items
+
+abbrev pub is_datagram : Item → Bool
+is_datagram (datagram feed octets) = true
+is_datagram (tick time) = false
+
+abbrev pub is_tick : Item → Bool
+is_tick (tick time) = true
+is_tick (datagram feed octets) = false
+
+-- ---- events
+
+abbrev pub is_delivery : Event → Bool
+is_delivery (Deliver feed admitted told other) = true
+is_delivery _ = false
+
+abbrev pub is_tick_taken : Event → Bool
+is_tick_taken (Tick time) = true
+is_tick_taken _ = false
+
+-- the blocks that an event passed over
+abbrev pub others_in : Event → ℕ
+others_in (Deliver feed admitted told other) = other
+others_in _ = 0
+
+-- ---- what was told of messages
+
+abbrev pub is_admitted : Outcome → Bool
+is_admitted (outcomes.Admitted arrival) = true
+is_admitted _ = false
+
+abbrev pub is_unknown : Outcome → Bool
+is_unknown outcomes.UnknownRadar = true
+is_unknown _ = false
+
+abbrev pub is_early : Outcome → Bool
+is_early (outcomes.BeforeHorizon slot low) = true
+is_early _ = false
+
+abbrev pub is_ahead : Outcome → Bool
+is_ahead (outcomes.Ahead time high) = true
+is_ahead _ = false
+
+abbrev pub is_not_plot : Outcome → Bool
+is_not_plot (outcomes.NotPlot why) = true
+is_not_plot _ = false
+
+-- of all messages, in order
+abbrev pub told_of : History → List Outcome
+told_of log = flat_map outcomes_in log.events
+
+-- ---- the counts
+
+-- a count stands still at 2^64 - 1
+abbrev pub counted : ℕ → ℕ
+counted n = min n (2 ^ 64 - 1)
+
+-- What became of items whose log is this: the ticks that were taken, what was told of the messages, and the blocks that were passed over are those of the log; malformed are the datagrams that aren't in it, and old the ticks that aren't.
+abbrev pub counts_of : List Item → History → Counts
+counts_of items log = record {
+  editions = counted (count_by is_tick_taken log.events);
+  admitted = counted (count_by is_admitted (told_of log));
+  unknown = counted (count_by is_unknown (told_of log));
+  early = counted (count_by is_early (told_of log));
+  ahead = counted (count_by is_ahead (told_of log));
+  not_plots = counted (count_by is_not_plot (told_of log));
+  malformed = counted (count_by is_datagram items - count_by is_delivery log.events);
+  other = counted (sum_by others_in log.events);
+  old = counted (count_by is_tick items - count_by is_tick_taken log.events);
+}
