@@ -4,4 +4,5 @@ pub mod Least
 pub mod Filing
 pub mod Spelled
 pub mod Certs
+pub mod Bounded
 pub mod Loads
