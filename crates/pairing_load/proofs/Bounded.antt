@@ -27,13 +27,14 @@ prices_fit (a ∷ b ∷ d ∷ []) (x ∷ y ∷ z ∷ []) c ul vl us vs e =
     let x' : x ≤ℤ pos 0 = vs 0 (pos 0) (omega arith) in
     let y' : y ≤ℤ pos 0 = vs 1 (pos 0) (omega arith) in
     let z' : z ≤ℤ pos 0 = vs 2 (pos 0) (omega arith) in
-    let sum : (((pos 0 +ℤ a) +ℤ b) +ℤ d) +ℤ (((pos 0 +ℤ x) +ℤ y) +ℤ z) ≡ pos c = e in
-    ( three_fit (small a (omega (arith, ints, a')) (omega (arith, ints, b', d', x', y', z', sum)))
-                (small b (omega (arith, ints, b')) (omega (arith, ints, a', d', x', y', z', sum)))
-                (small d (omega (arith, ints, d')) (omega (arith, ints, a', b', x', y', z', sum)))
-    , three_fit (small x (omega (arith, ints, x')) (omega (arith, ints, a', b', d', y', z', sum)))
-                (small y (omega (arith, ints, y')) (omega (arith, ints, a', b', d', x', z', sum)))
-                (small z (omega (arith, ints, z')) (omega (arith, ints, a', b', d', x', y', sum))))
+    let sum : (((pos 0 +ℤ a) +ℤ b) +ℤ d) +ℤ (((pos 0 +ℤ x) +ℤ y) +ℤ z) ≡ pos c = e in (
+      three_fit (small a (omega (arith, ints, a')) (omega (arith, ints, b', d', x', y', z', sum)))
+          (small b (omega (arith, ints, b')) (omega (arith, ints, a', d', x', y', z', sum)))
+          (small d (omega (arith, ints, d')) (omega (arith, ints, a', b', x', y', z', sum))),
+      three_fit (small x (omega (arith, ints, x')) (omega (arith, ints, a', b', d', y', z', sum)))
+          (small y (omega (arith, ints, y')) (omega (arith, ints, a', b', d', x', z', sum)))
+          (small z (omega (arith, ints, z')) (omega (arith, ints, a', b', d', x', y', sum))),
+    )
 prices_fit us vs c ul vl ue ve e = absurd (omega (arith, ul, vl))
 
 -- so prices that prove a pairing of three plots and three tracks fit 64 bits

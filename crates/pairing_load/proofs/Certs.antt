@@ -1,5 +1,5 @@
 -- Certificates of a load are certificates.
-use Rattle.std.proofs.Common.{◌≡◌, ◌∙◌, ap, sym, refl, subst, ℕ, ◌+◌, ◌*◌, ◌<◌, ◌^◌, ◌≤◌, List, [], ◌∷◌, ◌++◌, Option, length, arith}
+use Rattle.std.proofs.Common.{◌≡◌, ◌∙◌, ap, sym, refl, subst, ℕ, ◌+◌, ◌*◌, ◌<◌, ◌^◌, List, [], ◌∷◌, Option, length, arith}
 use Rattle.std.specs.Prelude.{FitsSigned, IfSome}
 use Rattle.std.specs.Int.{w64}
 use Rattle.std.specs.List.{All}
@@ -9,9 +9,8 @@ use Rattle.rand_pcg.specs.Lcg.{Lcg}
 use Rattle.assignment_dual.specs.Pairings.{Row, AllGate}
 use Rattle.assignment_dual.specs.Problems.{Problem, IsProblem, row_of, rows_of}
 use Rattle.price_form.specs.declared.certs.Cert.{Cert}
-use Rattle.price_form.specs.declared.certs.PriceRecord.TheVariants.{Cert as Certified}
 use Rattle.price_form.specs.Certificates.{IsCert}
-use Rattle.price_form.specs.Files.{IsInRange, IsRecord}
+use Rattle.price_form.specs.Files.{IsInRange}
 use Rattle.price_form.specs.Spelling.{cert_octets}
 use Rattle.pairing_load.specs.declared.problems.EdgeCosts.TheVariants.{Random}
 use Rattle.pairing_load.specs.Problems.{full_edge, full_problem}

@@ -1,6 +1,6 @@
 -- The price file of a load, record by record.
 use Rattle.std.proofs.Common.{◌≡◌, ◌∙◌, ap, sym, refl, subst, inl, inr, ℕ, ◌+◌, ◌*◌, ◌<◌, ◌≤◌, Option, List, [], ◌∷◌, ◌++◌, length, get_or, take, drop, arith, append_assoc, append-nil, length-append}
-use Rattle.std.specs.List.{All, flat_map}
+use Rattle.std.specs.List.{flat_map}
 use Rattle.std.specs.Io.KnownBytes.{Appends}
 use Rattle.std.proofs.Math.Seq.{take-add}
 use Rattle.std.proofs.lemmas.Bool.{cases_lt}
@@ -14,8 +14,8 @@ use Rattle.io_traits.proofs.Known.{Appends_nothing, Appends_trans}
 use Rattle.rand_pcg.specs.Lcg.{Lcg}
 use Rattle.price_form.specs.declared.certs.PriceRecord.{PriceRecord}
 use Rattle.price_form.specs.declared.certs.PriceRecord.TheVariants.{Edition, Cert as Certified}
-use Rattle.price_form.specs.Files.{ArePrices, IsRecord, StandFrom, StandsAt, magic}
-use Rattle.price_form.specs.Spelling.{record_octets, cert_octets}
+use Rattle.price_form.specs.Files.{IsRecord, StandFrom, StandsAt, magic}
+use Rattle.price_form.specs.Spelling.{record_octets}
 use Rattle.pairing_load.specs.declared.problems.EdgeCosts.TheVariants.{Random}
 use Rattle.pairing_load.specs.Places.{Got, GotFront}
 use Rattle.pairing_load.specs.Problems.{behind, generator_of}

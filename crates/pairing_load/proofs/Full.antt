@@ -1,5 +1,5 @@
 -- Full problems are problems.
-use Rattle.std.proofs.Common.{◌≡◌, ◌∙◌, ap, sym, refl, subst, inl, inr, ℕ, ◌+◌, ◌*◌, ◌/◌, ◌%◌, ◌<◌, ◌≤◌, List, [], ◌∷◌, ◌++◌, length, get_or, map, arith}
+use Rattle.std.proofs.Common.{◌≡◌, ◌∙◌, ap, sym, subst, inl, inr, ℕ, ◌+◌, ◌*◌, ◌/◌, ◌%◌, ◌<◌, ◌≤◌, List, [], ◌∷◌, ◌++◌, length, get_or, map, arith}
 use Rattle.std.specs.List.{range_with_len}
 use Rattle.std.proofs.lemmas.Bool.{cases_lt}
 use Rattle.std.proofs.lemmas.List.FromFn.{length-map-range_with_len, get_or-map-range_with_len, map-range_with_len_more}
@@ -36,9 +36,9 @@ full_is costs size g some =
     let long : length edges ≡ n = length-map-range_with_len (full_edge costs size g) 0 n in
     record {
       rising = λ i j lt end.
-        let here = edge_here costs size g n i (0, 0, 0) (omega (arith, lt, end, long)) in
-        let there = edge_here costs size g n j (0, 0, 0) (omega (arith, end, long)) in
-        subst (λ (e : Edge). EdgeBefore e (get_or edges j (0, 0, 0))) (sym here) (subst (λ (e : Edge). EdgeBefore (full_edge costs size g i) e) (sym there) (rising_edge costs size g some i j lt));
+          let here = edge_here costs size g n i (0, 0, 0) (omega (arith, lt, end, long)) in
+          let there = edge_here costs size g n j (0, 0, 0) (omega (arith, end, long)) in
+          subst (λ (e : Edge). EdgeBefore e (get_or edges j (0, 0, 0))) (sym here) (subst (λ (e : Edge). EdgeBefore (full_edge costs size g i) e) (sym there) (rising_edge costs size g some i j lt));
       plots = λ k d lt. subst (λ (e : Edge). e.0 < size) (sym (edge_here costs size g n k d (omega (arith, lt, long)))) (div_below k size size (omega arith) (omega (arith, lt, long)));
       tracks = λ k d lt. subst (λ (e : Edge). e.1 < size) (sym (edge_here costs size g n k d (omega (arith, lt, long)))) (mod_below k size (omega arith));
       costs = λ k d lt. subst (λ (e : Edge). e.2 ≤ 4096) (sym (edge_here costs size g n k d (omega (arith, lt, long)))) (next_cost_small costs (behind costs k g));

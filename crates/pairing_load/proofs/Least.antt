@@ -1,11 +1,11 @@
 -- Least costs, and their sums.
-use Rattle.std.proofs.Common.{◌≡◌, ◌∙◌, ap, sym, refl, subst, inl, inr, ℕ, ◌+◌, ◌*◌, ◌<◌, ◌≤◌, List, [], ◌∷◌, ◌++◌, Option, None, length, get_or, map, sum, arith, length-append, add-mul, one-mul}
+use Rattle.std.proofs.Common.{◌≡◌, ◌∙◌, ap, sym, refl, subst, inl, inr, ℕ, ◌+◌, ◌*◌, ◌≤◌, List, [], ◌∷◌, ◌++◌, Option, None, length, get_or, map, arith, length-append, add-mul, one-mul}
 use Rattle.std.proofs.lemmas.Bool.{cases_lt}
 use Rattle.std.proofs.lemmas.List.{get_or_append_left, get_or_push}
 use Rattle.std.proofs.lemmas.List.Sums.{sum_by_push}
 use Rattle.std.proofs.lemmas.List.FromFn.{length-map-range_with_len}
 use Rattle.rand_pcg.specs.Lcg.{Lcg}
-use Rattle.assignment_dual.specs.Pairings.{Row, AllGate, Once, IsPairing, IsLeast, cost}
+use Rattle.assignment_dual.specs.Pairings.{Row, AllGate, Once, IsLeast, cost}
 use Rattle.assignment_dual.specs.Problems.{Problem, row_of, rows_of}
 use Rattle.pairing_load.specs.declared.problems.EdgeCosts.{EdgeCosts}
 use Rattle.pairing_load.specs.Problems.{behind, full_problem, generator_of, problem}

@@ -1,5 +1,5 @@
 -- The certificates of a load.
-use Rattle.std.specs.Prelude.{◌≡◌, ℕ, ◌+◌, ◌*◌, List, [], ◌∷◌}
+use Rattle.std.specs.Prelude.{◌≡◌, ℕ, ◌+◌, ◌*◌, [], ◌∷◌}
 use Rattle.rand_pcg.specs.Lcg.{Lcg}
 use Rattle.assignment_dual.specs.Problems.{Proves}
 use Rattle.price_form.specs.declared.certs.Cert.{Cert}

@@ -1,5 +1,5 @@
 -- What a place got of a run.
-use Rattle.std.specs.Prelude.{◌≡◌, ◌≤◌, ℕ, List, length, take, Option}
+use Rattle.std.specs.Prelude.{◌≡◌, ◌≤◌, ℕ, List, length, take}
 use Rattle.std.specs.Io.KnownBytes.{Appends}
 use Rattle.io_traits.specs.Faults.{Rose}
 use Rattle.io_traits.specs.Host.{HostState, ChangesOnly}

@@ -1,5 +1,5 @@
 -- What came of a load.
-use Rattle.std.specs.Prelude.{◌≡◌, ⊤, ℕ, List, Option, Some}
+use Rattle.std.specs.Prelude.{◌≡◌, ⊤, ℕ, List, Some}
 use Rattle.io_traits.specs.Host.{HostState}
 use Rattle.io_traits.specs.declared.host.Place.TheVariants as places
 use Rattle.io_traits.specs.declared.host.Way.TheVariants as ways

@@ -119,10 +119,7 @@ fn stops_where_a_place_fails(rt: HostRuntime) -> Result<(), Fail> {
     assert_eq!(rt; host.got(Place::Screen), b"problems ".as_slice());
     assert_eq!(rt;
         (status.code(), status.line()),
-        (
-            5,
-            "pairing_load: the standard output couldn't be written\n"
-        )
+        (5, "pairing_load: the standard output couldn't be written\n")
     );
     Ok(())
 }

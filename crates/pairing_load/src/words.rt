@@ -125,12 +125,7 @@ pub fn pairings_of(words: &[String]) -> Option<Pairings>
     if command.as_str() != "pairings" {
         return None;
     }
-    pairings_with(
-        count.as_str(),
-        size.as_str(),
-        costs.as_str(),
-        seed.as_str(),
-    )
+    pairings_with(count.as_str(), size.as_str(), costs.as_str(), seed.as_str())
 }
 
 /// The certificates that words behind `prices` tell.

@@ -1,4 +1,4 @@
-use Rattle.std.proofs.Common.{List, ℕ, Result, Ok, Err, ◌<◌, ◌^◌, ◌≡◌}
+use Rattle.std.proofs.Common.{ℕ, Result, Ok, Err, ◌<◌, ◌^◌, ◌≡◌}
 use Rattle.std.specs.Prelude.{FitsSigned, IfOk, IfSome, Vec}
 use Rattle.std.specs.Int.{w64}
 use Rattle.std.specs.List.{All}

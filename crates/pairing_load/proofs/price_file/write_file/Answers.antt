@@ -1,7 +1,6 @@
-use Rattle.std.proofs.Common.{rules, ◌∙◌, ◌≡◌, sym, subst, List, ℕ, arith}
-use Rattle.io_traits.specs.declared.host.Place.TheVariants as places
+use Rattle.std.proofs.Common.{rules, ◌∙◌, sym, subst, List, ℕ, arith}
 use Rattle.io_traits.proofs.Frames.{WritesOnly_trans}
-use Rattle.pairing_load.specs.PriceFiles.{FileWritten, RecordMade}
+use Rattle.pairing_load.specs.PriceFiles.{RecordMade}
 use Rattle.pairing_load.proofs.Filing.{front_broken, front_here, front_none, progress_more, progress_none}
 use Rattle.pairing_load.proofs.price_file.write_file.Goals as goal
 

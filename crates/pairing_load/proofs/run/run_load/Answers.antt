@@ -1,4 +1,4 @@
-use Rattle.std.proofs.Common.{rules, ◌≡◌, subst, ℕ, List, inl, inr}
+use Rattle.std.proofs.Common.{rules, subst, ℕ, List, inl, inr}
 use Rattle.pairing_load.specs.PriceFiles.{FrontWritten}
 use Rattle.pairing_load.specs.Runs.{SolvingEnds, WritingEnds}
 use Rattle.pairing_load.specs.Words.{texts}

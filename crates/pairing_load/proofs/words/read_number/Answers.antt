@@ -1,4 +1,3 @@
-use Rattle.std.proofs.Common.{sym, true}
 use Rattle.pairing_load.proofs.Spelled.{decimal_plain, number_refused, number_spelled, plain_of, told_plain}
 use Rattle.pairing_load.proofs.words.read_number.Goals as goal
 
