@@ -11,8 +11,8 @@ use Rattle.assignment_dual.specs.Problems.{Problem, Proves, rows_of, total}
 use Rattle.pairing_load.specs.declared.problems.EdgeCosts.TheVariants.{Random}
 use Rattle.pairing_load.specs.Problems.{full_problem}
 
-three_fit : {a b d : ℤ} → FitsSigned w64 a → FitsSigned w64 b → FitsSigned w64 d → All (FitsSigned w64) (a ∷ b ∷ d ∷ [])
-three_fit {a} {b} {d} p q r = All-cons (FitsSigned w64) a (b ∷ d ∷ []) p (All-cons (FitsSigned w64) b (d ∷ []) q (All-cons (FitsSigned w64) d [] r (All-nil (FitsSigned w64))))
+pub all_three : {X : Type 0} (P : X → Type 0) (x y z : X) → P x → P y → P z → All P (x ∷ y ∷ z ∷ [])
+all_three P x y z a b c = All-cons P x (y ∷ z ∷ []) a (All-cons P y (z ∷ []) b (All-cons P z [] c (All-nil P)))
 
 small : (z : ℤ) → z ≤ℤ pos 20000 → pos 0 ≤ℤ (z +ℤ pos 20000) → FitsSigned w64 z
 small (pos n) high low = fits_signed_from_abs w64 (pos n) (omega (arith, ints, high))
@@ -28,10 +28,10 @@ prices_fit (a ∷ b ∷ d ∷ []) (x ∷ y ∷ z ∷ []) c ul vl us vs e =
     let y' : y ≤ℤ pos 0 = vs 1 (pos 0) (omega arith) in
     let z' : z ≤ℤ pos 0 = vs 2 (pos 0) (omega arith) in
     let sum : (((pos 0 +ℤ a) +ℤ b) +ℤ d) +ℤ (((pos 0 +ℤ x) +ℤ y) +ℤ z) ≡ pos c = e in (
-      three_fit (small a (omega (arith, ints, a')) (omega (arith, ints, b', d', x', y', z', sum)))
+      all_three (FitsSigned w64) a b d (small a (omega (arith, ints, a')) (omega (arith, ints, b', d', x', y', z', sum)))
           (small b (omega (arith, ints, b')) (omega (arith, ints, a', d', x', y', z', sum)))
           (small d (omega (arith, ints, d')) (omega (arith, ints, a', b', x', y', z', sum))),
-      three_fit (small x (omega (arith, ints, x')) (omega (arith, ints, a', b', d', y', z', sum)))
+      all_three (FitsSigned w64) x y z (small x (omega (arith, ints, x')) (omega (arith, ints, a', b', d', y', z', sum)))
           (small y (omega (arith, ints, y')) (omega (arith, ints, a', b', d', x', z', sum)))
           (small z (omega (arith, ints, z')) (omega (arith, ints, a', b', d', x', y', sum))),
     )

@@ -3,7 +3,6 @@ use Rattle.std.proofs.Common.{◌≡◌, ◌∙◌, ap, sym, refl, subst, ℕ, �
 use Rattle.std.specs.Prelude.{FitsSigned, IfSome}
 use Rattle.std.specs.Int.{w64}
 use Rattle.std.specs.List.{All}
-use Rattle.std.proofs.lemmas.List.Elements.{All-push}
 use Rattle.std.proofs.lemmas.List.FromFn.{length-map-range_with_len}
 use Rattle.rand_pcg.specs.Lcg.{Lcg}
 use Rattle.assignment_dual.specs.Pairings.{Row, AllGate}
@@ -16,6 +15,7 @@ use Rattle.pairing_load.specs.declared.problems.EdgeCosts.TheVariants.{Random}
 use Rattle.pairing_load.specs.Problems.{full_edge, full_problem}
 use Rattle.pairing_load.specs.Certificates.{IsLoadCert}
 use Rattle.pairing_load.specs.PriceFiles.{RecordMade}
+use Rattle.pairing_load.proofs.Bounded.{all_three}
 use Rattle.pairing_load.proofs.Full.{full_is}
 
 gates_count : (rows : List Row) (xs : List (Option ℕ)) → AllGate rows xs → length xs ≡ length rows
@@ -23,9 +23,6 @@ gates_count [] [] h = refl
 gates_count [] (x ∷ xs) h = absurd h
 gates_count (row ∷ rows) [] h = absurd h
 gates_count (row ∷ rows) (x ∷ xs) h = omega (arith, gates_count rows xs h.1)
-
-all_three : (P : ℕ → Type 0) (x y z : ℕ) → P x → P y → P z → All P (x ∷ y ∷ z ∷ [])
-all_three P x y z a b c = All-push P (x ∷ y ∷ []) z (All-push P (x ∷ []) y (All-push P [] x (λ k d lt. absurd (omega (arith, lt))) a) b) c
 
 pub cert_formed : (k : ℕ) (g : Lcg) (c : Cert) → IsLoadCert k g c → All (λ x. IfSome x (λ t. t < c.costs.tracks)) c.pairing → IsCert c
 unfolding full_problem
