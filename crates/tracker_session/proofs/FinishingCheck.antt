@@ -1,8 +1,8 @@
 -- The end of a check of a price file: what came of it, and what Screen got.
-use Rattle.std.proofs.Common.{◌≡◌, ◌≢◌, ◌∙◌, ap, sym, refl, subst, inl, inr, ℕ, ◌≤◌, ◌⊎◌, List, length, arith}
+use Rattle.std.proofs.Common.{◌≡◌, ◌≢◌, ◌∙◌, sym, refl, subst, inl, inr, ℕ, ◌⊎◌, List, arith}
 use Rattle.std.specs.Prelude.{Option, Result, Ok, Err}
 use Rattle.std.specs.Io.KnownBytes.{Appends}
-use Rattle.io_traits.specs.Host.{HostState, IsEmpty, WritesOnly}
+use Rattle.io_traits.specs.Host.{HostState, WritesOnly}
 use Rattle.io_traits.specs.declared.host.Place.TheVariants as places
 use Rattle.io_traits.specs.declared.host.Way.{Way}
 use Rattle.io_traits.specs.declared.host.Way.TheVariants as ways
@@ -11,16 +11,16 @@ use Rattle.tracker_session.specs.declared.status.Spot.TheVariants as spots
 use Rattle.tracker_session.specs.declared.status.Status.{Status}
 use Rattle.tracker_session.specs.declared.status.Status.TheVariants.{Done, Usage, Settings, Input, Read, Write, Memory, NotProved}
 use Rattle.tracker_session.specs.Checking.{Verdict, Checks, proved, fails, fault}
-use Rattle.tracker_session.specs.CheckEnds.{CheckCause, EndOfCheck, IsVerdict, PricesBound, Says, UsesPricesAndScreen, status_of}
+use Rattle.tracker_session.specs.CheckEnds.{CheckCameTo, EndOfCheck, IsStatusOfVerdict, Says, UsesPricesAndScreen}
 use Rattle.tracker_session.specs.CheckRuns.{CheckRan, WasJudged}
-use Rattle.tracker_session.specs.Ends.{NoFailure}
-use Rattle.tracker_session.specs.Inputs.{limit}
-use Rattle.tracker_session.specs.Places.{Has, BoundAtMost, PlaceRead, StopsReading, UsesRead}
+use Rattle.tracker_session.specs.Places.{Has, BoundAtMost, HasFailed, PlaceRead, StopsReading, UsesRead}
 use Rattle.tracker_session.specs.Screen.{proved_line, status_line}
+use Rattle.tracker_session.specs.Stages.{WasRead}
 use Rattle.tracker_session.specs.Telling.{LineTold, Told, ToldAtEnd}
 use Rattle.tracker_session.proofs.Frames.{later_of, later_written}
-use Rattle.tracker_session.proofs.Outcomes.{read_alike, whole_read}
-use Rattle.tracker_session.proofs.Telling.{behind_up, failed_still, line_failed, told_line, told_up}
+use Rattle.tracker_session.proofs.Outcomes.{read_alike, was_read}
+use Rattle.tracker_session.proofs.Stages.{as_written, read_then}
+use Rattle.tracker_session.proofs.Telling.{behind_up, done_status, failed_still, line_failed, told_line, told_up}
 use Rattle.tracker_session.proofs.Verdicts.{checks_alike, one_verdict}
 
 prices_screen : places.Prices ≢ places.Screen
@@ -47,11 +47,8 @@ uses_both old mid new u only = record {
 bound_still : (prices : List ℕ) (mid new : HostState) → WritesOnly places.Screen mid new → BoundAtMost (mid.bound places.Prices) ways.Read prices → BoundAtMost (new.bound places.Prices) ways.Read prices
 bound_still prices mid new only h = subst (λ (b : Option (Way × List ℕ)). BoundAtMost b ways.Read prices) (sym (only.bound places.Prices)) h
 
-prices_bound : (prices octets : List ℕ) (old mid new : HostState) → PlaceRead places.Prices octets prices old mid → WritesOnly places.Screen mid new → PricesBound prices old new
-prices_bound prices octets old mid new read only = record { bound = only.bound places.Prices ∙ read.bound; faults = only.faults places.Prices prices_screen ∙ read.faults }
-
-read_whole : (prices octets all : List ℕ) (old mid new : HostState) → PlaceRead places.Prices octets prices old mid → WritesOnly places.Screen mid new → Has places.Prices old all → length all ≤ limit → IsEmpty (new.left places.Prices)
-read_whole prices octets all old mid new read only has short = subst IsEmpty (sym (only.left places.Prices)) (whole_read places.Prices octets prices all old mid read has short)
+read_still : (prices octets : List ℕ) (old mid new : HostState) → PlaceRead places.Prices octets prices old mid → WritesOnly places.Screen mid new → WasRead places.Prices prices old new
+read_still prices octets old mid new read only = read_then places.Prices prices old mid new (as_written places.Prices places.Screen mid new prices_screen only) (was_read places.Prices octets prices old mid read)
 
 -- ---- all certificates prove
 
@@ -71,25 +68,18 @@ done_says all count (Input offset) old mid new got faults h told = absurd told
 done_says all count (Read spot) old mid new got faults h told = tt
 done_says all count (NotProved i o) old mid new got faults h told = absurd told
 
-done_complete : (all : List ℕ) (count : ℕ) (v : Verdict) (t : Status) (old mid new : HostState) → mid.faults places.Screen ≡ old.faults places.Screen → Checks all (proved count) → LineTold (proved_line count) t mid new → Checks all v → NoFailure old new → t ≢ Memory → t ≡ status_of v
-done_complete all count v Done old mid new faults h told k none memory = ap status_of (one_verdict all (proved count) v h k)
-done_complete all count v (Write spot) old mid new faults h told k none memory = absurd (none places.Screen (line_failed old mid new faults told.1.failed))
-done_complete all count v Memory old mid new faults h told k none memory = absurd (memory refl)
-done_complete all count v Usage old mid new faults h told k none memory = absurd told
-done_complete all count v (Settings f) old mid new faults h told k none memory = absurd told
-done_complete all count v (Input offset) old mid new faults h told k none memory = absurd told
-done_complete all count v (Read spot) old mid new faults h told k none memory = absurd told
-done_complete all count v (NotProved i o) old mid new faults h told k none memory = absurd told
+done_complete : (all : List ℕ) (count : ℕ) (v : Verdict) (t : Status) (mid new : HostState) → Checks all (proved count) → LineTold (proved_line count) t mid new → Checks all v → t ≢ Memory → IsStatusOfVerdict v t
+done_complete all count v t mid new h told k memory = subst (λ (x : Verdict). IsStatusOfVerdict x t) (one_verdict all (proved count) v h k) (done_status (proved_line count) t mid new told memory)
 
-done_cause : (line : List ℕ) (t : Status) (old mid new : HostState) → mid.faults places.Screen ≡ old.faults places.Screen → LineTold line t mid new → CheckCause t old new
-done_cause line Done old mid new faults told = tt
-done_cause line (Write spot) old mid new faults told = (told.0, line_failed old mid new faults told.1.failed)
-done_cause line Memory old mid new faults told = tt
-done_cause line Usage old mid new faults told = told
-done_cause line (Settings f) old mid new faults told = told
-done_cause line (Input offset) old mid new faults told = absurd told
-done_cause line (Read spot) old mid new faults told = absurd told
-done_cause line (NotProved i o) old mid new faults told = absurd told
+done_came : (prices line : List ℕ) (t : Status) (old mid new : HostState) → mid.faults places.Screen ≡ old.faults places.Screen → WasRead places.Prices prices old new → LineTold line t mid new → CheckCameTo prices t old new
+done_came prices line Done old mid new faults read told = read
+done_came prices line (Write spot) old mid new faults read told = subst (λ (x : Spot). CheckCameTo prices (Write x) old new) (sym told.0) (read, line_failed old mid new faults told.1.failed)
+done_came prices line Memory old mid new faults read told = tt
+done_came prices line Usage old mid new faults read told = told
+done_came prices line (Settings f) old mid new faults read told = told
+done_came prices line (Input offset) old mid new faults read told = absurd told
+done_came prices line (Read spot) old mid new faults read told = absurd told
+done_came prices line (NotProved i o) old mid new faults read told = absurd told
 
 pub check_done : (prices : List ℕ) (count : ℕ) (t : Status) (old mid new : HostState) → CheckRan prices (Ok count) old mid → LineTold (proved_line count) t mid new → WritesOnly places.Screen mid new → EndOfCheck prices t old new
 check_done prices count t old mid new ran told only =
@@ -99,11 +89,9 @@ check_done prices count t old mid new ran told only =
     let judged = λ (all : List ℕ) (has : Has places.Prices old all). checks_alike w.octets all (proved count) (read_alike places.Prices w.octets prices all old mid w.read has) w.judged in
     record {
       verdict = λ all has. done_says all count t old mid new got faults (judged all has) told;
-      complete = λ all v has k none memory. done_complete all count v t old mid new faults (judged all has) told k none memory;
-      cause = done_cause (proved_line count) t old mid new faults told;
+      complete = λ all v has k none memory. done_complete all count v t mid new (judged all has) told k memory;
+      came = done_came prices (proved_line count) t old mid new faults (read_still prices w.octets old mid new w.read only) told;
       bound = bound_still prices mid new only ran.bound;
-      faultless = λ is. prices_bound prices w.octets old mid new w.read only;
-      whole = λ is all has short. read_whole prices w.octets all old mid new w.read only has short;
       screen = told_line proved_line count t old mid new got faults told;
       uses = uses_both old mid new ran.uses only;
     }
@@ -130,10 +118,10 @@ other_says prices all (Settings f) old mid new h has = tt
 other_says prices all (Read spot) old mid new h has = tt
 other_says prices all Memory old mid new h has = tt
 
-other_complete : (prices all : List ℕ) (v : Verdict) (s : Status) (old mid new : HostState) → StopsReading places.Prices s old mid ⊎ WasJudged prices (Err s) old mid → WritesOnly places.Screen mid new → Has places.Prices old all → Checks all v → NoFailure old new → s ≢ Memory → s ≡ status_of v
-other_complete prices all v (NotProved i o) old mid new (inr w) only has k none memory = ap status_of (one_verdict all (fails i o) v (checks_alike w.octets all (fails i o) (read_alike places.Prices w.octets prices all old mid w.read has) w.judged) k)
-other_complete prices all v (Input offset) old mid new (inr w) only has k none memory = ap status_of (one_verdict all (fault offset) v (checks_alike w.octets all (fault offset) (read_alike places.Prices w.octets prices all old mid w.read has) w.judged) k)
-other_complete prices all v (Read spot) old mid new (inl h) only has k none memory = absurd (none places.Prices (failed_still places.Prices old mid new prices_screen only h.1))
+other_complete : (prices all : List ℕ) (v : Verdict) (s : Status) (old mid new : HostState) → StopsReading places.Prices s old mid ⊎ WasJudged prices (Err s) old mid → WritesOnly places.Screen mid new → Has places.Prices old all → Checks all v → (HasFailed places.Prices old new → ⊥) → s ≢ Memory → IsStatusOfVerdict v s
+other_complete prices all v (NotProved i o) old mid new (inr w) only has k none memory = subst (λ (x : Verdict). IsStatusOfVerdict x (NotProved i o)) (one_verdict all (fails i o) v (checks_alike w.octets all (fails i o) (read_alike places.Prices w.octets prices all old mid w.read has) w.judged) k) refl
+other_complete prices all v (Input offset) old mid new (inr w) only has k none memory = subst (λ (x : Verdict). IsStatusOfVerdict x (Input offset)) (one_verdict all (fault offset) v (checks_alike w.octets all (fault offset) (read_alike places.Prices w.octets prices all old mid w.read has) w.judged) k) refl
+other_complete prices all v (Read spot) old mid new (inl h) only has k none memory = absurd (none (failed_still places.Prices old mid new prices_screen only h.1))
 other_complete prices all v (Read spot) old mid new (inr w) only has k none memory = absurd w.judged
 other_complete prices all v Memory old mid new h only has k none memory = absurd (memory refl)
 other_complete prices all v (NotProved i o) old mid new (inl h) only has k none memory = absurd h
@@ -147,30 +135,22 @@ other_complete prices all v Usage old mid new (inr w) only has k none memory = a
 other_complete prices all v (Settings f) old mid new (inl h) only has k none memory = absurd h
 other_complete prices all v (Settings f) old mid new (inr w) only has k none memory = absurd w.judged
 
-other_cause : (prices : List ℕ) (s : Status) (old mid new : HostState) → StopsReading places.Prices s old mid ⊎ WasJudged prices (Err s) old mid → WritesOnly places.Screen mid new → CheckCause s old new
-other_cause prices (NotProved i o) old mid new h only = tt
-other_cause prices (Input offset) old mid new h only = tt
-other_cause prices (Read spot) old mid new (inl h) only = (h.0, failed_still places.Prices old mid new prices_screen only h.1)
-other_cause prices (Read spot) old mid new (inr w) only = absurd w.judged
-other_cause prices Memory old mid new h only = tt
-other_cause prices Done old mid new h only = tt
-other_cause prices (Write spot) old mid new (inl h) only = absurd h
-other_cause prices (Write spot) old mid new (inr w) only = absurd w.judged
-other_cause prices Usage old mid new (inl h) only = h
-other_cause prices Usage old mid new (inr w) only = w.judged
-other_cause prices (Settings f) old mid new (inl h) only = h
-other_cause prices (Settings f) old mid new (inr w) only = w.judged
-
-other_judged : (prices : List ℕ) (s : Status) (old mid : HostState) → StopsReading places.Prices s old mid ⊎ WasJudged prices (Err s) old mid → IsVerdict s → WasJudged prices (Err s) old mid
-other_judged prices s old mid (inr w) is = w
-other_judged prices (NotProved i o) old mid (inl h) is = absurd h
-other_judged prices (Input offset) old mid (inl h) is = absurd h
-other_judged prices Done old mid (inl h) is = absurd h
-other_judged prices (Write spot) old mid (inl h) is = absurd is
-other_judged prices Usage old mid (inl h) is = absurd is
-other_judged prices (Settings f) old mid (inl h) is = absurd is
-other_judged prices (Read spot) old mid (inl h) is = absurd is
-other_judged prices Memory old mid (inl h) is = absurd is
+other_came : (prices : List ℕ) (s : Status) (old mid new : HostState) → StopsReading places.Prices s old mid ⊎ WasJudged prices (Err s) old mid → WritesOnly places.Screen mid new → CheckCameTo prices s old new
+other_came prices (NotProved i o) old mid new (inr w) only = read_still prices w.octets old mid new w.read only
+other_came prices (Input offset) old mid new (inr w) only = read_still prices w.octets old mid new w.read only
+other_came prices (Read spot) old mid new (inl h) only = subst (λ (x : Spot). CheckCameTo prices (Read x) old new) (sym h.0) (failed_still places.Prices old mid new prices_screen only h.1)
+other_came prices (Read spot) old mid new (inr w) only = absurd w.judged
+other_came prices Memory old mid new h only = tt
+other_came prices (NotProved i o) old mid new (inl h) only = absurd h
+other_came prices (Input offset) old mid new (inl h) only = absurd h
+other_came prices Done old mid new (inl h) only = absurd h
+other_came prices Done old mid new (inr w) only = absurd w.judged
+other_came prices (Write spot) old mid new (inl h) only = absurd h
+other_came prices (Write spot) old mid new (inr w) only = absurd w.judged
+other_came prices Usage old mid new (inl h) only = absurd h
+other_came prices Usage old mid new (inr w) only = absurd w.judged
+other_came prices (Settings f) old mid new (inl h) only = absurd h
+other_came prices (Settings f) old mid new (inr w) only = absurd w.judged
 
 other_told : (prices : List ℕ) (s : Status) (old mid new : HostState) → StopsReading places.Prices s old mid ⊎ WasJudged prices (Err s) old mid → Told (status_line s) old new → ToldAtEnd proved_line s old new
 other_told prices Done old mid new (inl h) told = absurd h
@@ -191,10 +171,8 @@ check_told prices s old mid new ran told only =
     record {
       verdict = λ all has. other_says prices all s old mid new h has;
       complete = λ all v has k none memory. other_complete prices all v s old mid new h only has k none memory;
-      cause = other_cause prices s old mid new h only;
+      came = other_came prices s old mid new h only;
       bound = bound_still prices mid new only ran.bound;
-      faultless = λ is. (let w = other_judged prices s old mid h is in prices_bound prices w.octets old mid new w.read only);
-      whole = λ is all has short. (let w = other_judged prices s old mid h is in read_whole prices w.octets all old mid new w.read only has short);
       screen = other_told prices s old mid new h up;
       uses = uses_both old mid new ran.uses only;
     }
@@ -204,10 +182,8 @@ pub check_memory : (prices : List ℕ) (old mid new : HostState) → BoundAtMost
 check_memory prices old mid new bound uses told only = record {
   verdict = λ all has. tt;
   complete = λ all v has k none memory. absurd (memory refl);
-  cause = tt;
+  came = tt;
   bound = bound_still prices mid new only bound;
-  faultless = λ is. absurd is;
-  whole = λ is. absurd is;
   screen = told_up (status_line Memory) old mid new (uses.got places.Screen) (uses.others.faults places.Screen screen_prices) told;
   uses = uses_both old mid new uses only;
 }

@@ -14,6 +14,7 @@ pub mod Running
 pub mod Runs
 pub mod Settings
 pub mod SomeReplay
+pub mod Stages
 pub mod Stepping
 pub mod Tallying
 pub mod Telling

@@ -16,12 +16,14 @@ use Rattle.admission_log.specs.declared.settings.Settings as admission
 use Rattle.tracker_session.specs.declared.screen.Counts.{Counts}
 use Rattle.tracker_session.specs.declared.status.Status.{Status}
 use Rattle.tracker_session.specs.declared.status.Status.TheVariants.{Done, Usage, Settings, Input, Read, Write, Memory, NotProved}
-use Rattle.tracker_session.specs.Answers.{IsAnswer, Replayed, Answered, ReplayedFront, BreaksOff, WritingBreaksOff}
-use Rattle.tracker_session.specs.Places.{AppendsFront, Has, GotFront, BoundAtMost, PlaceRead, IsFaultless, OutputBound, StopsReading, StopsWriting, UsesRead, UsesWrite, UsesInputAndOutput}
+use Rattle.tracker_session.specs.Answers.{IsAnswer, Replayed, Answered, ReplayedFront, WritingBreaksOff}
+use Rattle.tracker_session.specs.Places.{AppendsFront, Has, GotFront, BoundAtMost, HasFailed, PlaceRead, OutputBound, StopsReading, StopsWriting, UsesRead, UsesWrite, UsesInputAndOutput}
 use Rattle.tracker_session.specs.Inputs.{IsRead, limit}
 use Rattle.tracker_session.specs.Replay.{Replays}
-use Rattle.tracker_session.specs.Runs.{RanUnder, IsBeforeOutput}
+use Rattle.tracker_session.specs.Runs.{RanUnder}
+use Rattle.tracker_session.specs.Stages.{WasRead}
 use Rattle.tracker_session.proofs.Frames.{later_of, later_written}
+use Rattle.tracker_session.proofs.Stages.{as_changed, as_written, read_then, under_taken, under_unopened, under_unread, untouched}
 use Rattle.tracker_session.proofs.Stepping.{stops_since}
 
 -- Two inputs that are one, or both pass the limit and are one before it.
@@ -77,6 +79,9 @@ whole_read place octets name all old new read has short =
     let more = consumed (old.left place) (new.left place) octets all read.taken has in
     read.whole (omega (arith, short, ap length more.1, length-append octets more.0))
 
+pub was_read : (place : Place) (octets name : List ℕ) (old new : HostState) → PlaceRead place octets name old new → WasRead place name old new
+was_read place octets name old new read = record { bound = read.bound; faults = read.faults; whole = λ all has short. whole_read place octets name all old new read has short }
+
 -- nothing was written at all
 pub front_none : (old new : HostState) (output : List ℕ) → new.got places.Output ≡ old.got places.Output → GotFront places.Output old new output
 front_none old new output same =
@@ -114,36 +119,6 @@ write_no_answer (Write spot) old new h is = is
 write_no_answer Memory old new h is = is
 write_no_answer (NotProved index offset) old new h is = is
 
-read_causes : (s : Status) (old new : HostState) → StopsReading places.Input s old new → BreaksOff (Err s) old new
-read_causes (Input offset) old new h = absurd h
-read_causes Done old new h = absurd h
-read_causes Usage old new h = absurd h
-read_causes (Settings fault) old new h = absurd h
-read_causes (Read spot) old new h = h
-read_causes (Write spot) old new h = absurd h
-read_causes Memory old new h = tt
-read_causes (NotProved index offset) old new h = absurd h
-
-write_causes : (s : Status) (old new : HostState) → StopsWriting s old new → BreaksOff (Err s) old new
-write_causes (Input offset) old new h = absurd h
-write_causes Done old new h = absurd h
-write_causes Usage old new h = absurd h
-write_causes (Settings fault) old new h = absurd h
-write_causes (Read spot) old new h = absurd h
-write_causes (Write spot) old new h = h
-write_causes Memory old new h = tt
-write_causes (NotProved index offset) old new h = absurd h
-
-write_not_before : (s : Status) (old new : HostState) → StopsWriting s old new → IsBeforeOutput (Err s) → ⊥
-write_not_before (Input offset) old new h is = is
-write_not_before Done old new h is = is
-write_not_before Usage old new h is = is
-write_not_before (Settings fault) old new h is = h
-write_not_before (Read spot) old new h is = h
-write_not_before (Write spot) old new h is = is
-write_not_before Memory old new h is = is
-write_not_before (NotProved index offset) old new h is = is
-
 pub output_input : places.Output ≢ places.Input
 output_input e = cc
 
@@ -164,12 +139,9 @@ ran_unread settings input output s old new stops bound uses unbound =
     let never = read_no_answer places.Input s old new stops in
     let still = uses.others.bound places.Output output_input ∙ unbound in
     record {
+      came = under_unread input output s old new stops (untouched places.Output old new unbound (as_changed places.Output places.Input old new output_input uses.others));
       answer = λ octets has. no_answer settings octets s old new never;
-      causes = read_causes s old new stops;
       front = λ octets has out counts fault r. front_none old new out (uses.got places.Output);
-      order = λ is. record { bound = still; got = uses.got places.Output };
-      faultless = λ is. absurd (never is);
-      whole = λ is. absurd (never is);
       input_bound = bound;
       output_bound = inl still;
       uses = uses_read old new uses;
@@ -189,12 +161,9 @@ ran_unopened settings input output octets s old mid new read uses stops bound go
     let since = stops_since s old mid new (later_of places.Input old mid uses.others places.Output) stops in
     let never = write_no_answer s old new since in
     record {
+      came = under_unopened input output s old new since (read_then places.Input input old mid new (as_changed places.Input places.Output mid new input_output opens.others) (was_read places.Input octets input old mid read));
       answer = λ octets' has. no_answer settings octets' s old new never;
-      causes = write_causes s old new since;
       front = λ octets' has out counts fault r. front_none old new out (got places.Output ∙ uses.got places.Output);
-      order = λ is. absurd (write_not_before s old new since is);
-      faultless = λ is. absurd (never is);
-      whole = λ is. absurd (never is);
       input_bound = inr (opens.others.bound places.Input input_output ∙ read.bound);
       output_bound = inr bound;
       uses = uses_both old mid new uses opens got;
@@ -215,60 +184,23 @@ answered_up settings octets all (Err (Write spot)) old mid new alike got h = tt
 answered_up settings octets all (Err Memory) old mid new alike got h = tt
 answered_up settings octets all (Err (NotProved index offset)) old mid new alike got h = tt
 
-causes_up : (r : Result Counts Status) (old mid new : HostState) → old.faults places.Output ≤ mid.faults places.Output → WritingBreaksOff r mid new → BreaksOff r old new
-causes_up (Ok counts) old mid new later h = tt
-causes_up (Err (Input offset)) old mid new later h = tt
-causes_up (Err (Write spot)) old mid new later h = (h.0, Rose_since (old.faults places.Output) (mid.faults places.Output) (new.faults places.Output) later h.1)
-causes_up (Err Memory) old mid new later h = tt
-causes_up (Err (NotProved index offset)) old mid new later h = absurd h
-causes_up (Err Done) old mid new later h = absurd h
-causes_up (Err Usage) old mid new later h = absurd h
-causes_up (Err (Settings fault)) old mid new later h = absurd h
-causes_up (Err (Read spot)) old mid new later h = absurd h
+input_read : (input octets : List ℕ) (a r o z : HostState) → PlaceRead places.Input octets input a r → UsesWrite places.Output r o → WritesOnly places.Output o z → WasRead places.Input input a z
+input_read input octets a r o z read second third =
+    let opened = read_then places.Input input a r o (as_changed places.Input places.Output r o input_output second.others) (was_read places.Input octets input a r read) in
+    read_then places.Input input a o z (as_written places.Input places.Output o z input_output third) opened
 
-taken_not_before : (r : Result Counts Status) (old new : HostState) → WritingBreaksOff r old new → IsBeforeOutput r → ⊥
-taken_not_before (Ok counts) old new h is = is
-taken_not_before (Err (Input offset)) old new h is = is
-taken_not_before (Err (Write spot)) old new h is = is
-taken_not_before (Err Memory) old new h is = is
-taken_not_before (Err (NotProved index offset)) old new h is = is
-taken_not_before (Err Done) old new h is = is
-taken_not_before (Err Usage) old new h is = is
-taken_not_before (Err (Settings fault)) old new h is = h
-taken_not_before (Err (Read spot)) old new h is = h
-
--- where a place is neither, no step changes its count
-kept_faults : (p : Place) → p ≢ places.Input → p ≢ places.Output → (a r o z : HostState) → UsesRead places.Input a r → UsesWrite places.Output r o → WritesOnly places.Output o z → z.faults p ≡ a.faults p
-kept_faults p not_input not_output a r o z first second third = third.faults p not_output ∙ second.others.faults p not_output ∙ first.others.faults p not_input
-
-faultless : (input output octets : List ℕ) (a r o z : HostState) → PlaceRead places.Input octets input a r → UsesRead places.Input a r → OutputBound output r o → UsesWrite places.Output r o → WritesOnly places.Output o z → z.faults places.Output ≡ o.faults places.Output → IsFaultless input output a z
-faultless input output octets a r o z read first bound second third kept =
-    record {
-      input_bound = third.bound places.Input ∙ second.others.bound places.Input input_output ∙ read.bound;
-      output_bound = third.bound places.Output ∙ bound.bound;
-      faults = all;
-    }
-  where
-    all : (p : Place) → z.faults p ≡ a.faults p
-    all places.Input = third.faults places.Input input_output ∙ second.others.faults places.Input input_output ∙ read.faults
-    all places.Output = kept ∙ bound.faults ∙ first.others.faults places.Output output_input
-    all places.Settings = kept_faults places.Settings (λ e. cc) (λ e. cc) a r o z first second third
-    all places.Prices = kept_faults places.Prices (λ e. cc) (λ e. cc) a r o z first second third
-    all places.Screen = kept_faults places.Screen (λ e. cc) (λ e. cc) a r o z first second third
+output_bound : (output : List ℕ) (a r o z : HostState) → UsesRead places.Input a r → OutputBound output r o → WritesOnly places.Output o z → z.faults places.Output ≡ o.faults places.Output → OutputBound output a z
+output_bound output a r o z first bound third kept = record { bound = third.bound places.Output ∙ bound.bound; faults = kept ∙ bound.faults ∙ first.others.faults places.Output output_input }
 
 pub ran_taken : (settings : admission.Settings) (input output octets : List ℕ) (r : Result Counts Status) (old read mid new : HostState) → PlaceRead places.Input octets input old read → UsesRead places.Input old read → OutputBound output read mid → ((p : Place) → mid.got p ≡ read.got p) → UsesWrite places.Output read mid → Answered settings octets r mid new → WritingBreaksOff r mid new → (IsAnswer r → new.faults places.Output ≡ mid.faults places.Output) → ReplayedFront settings octets mid new → WritesOnly places.Output mid new → RanUnder settings input output r old new
 ran_taken settings input output octets r old read mid new reads uses bound got opens answer causes kept front writes =
     let same = got places.Output ∙ uses.got places.Output in
-    let first = later_of places.Input old read uses.others places.Output in
-    let second = later_of places.Output read mid opens.others places.Output in
+    let failed = λ (h : HasFailed places.Output mid new). Rose_since (old.faults places.Output) (mid.faults places.Output) (new.faults places.Output) (omega (arith, later_of places.Input old read uses.others places.Output, later_of places.Output read mid opens.others places.Output)) h in
     record {
+      came = under_taken input output r old mid new causes failed (input_read input octets old read mid new reads opens writes) (λ is. output_bound output old read mid new uses bound writes (kept is));
       answer = λ all has. answered_up settings octets all r old mid new (read_alike places.Input octets input all old read reads has) same answer;
-      causes = causes_up r old mid new (omega (arith, first, second)) causes;
       front = λ all has out counts fault h.
           subst (λ (g : Option (List ℕ)). AppendsFront g (new.got places.Output) out) same (front out counts fault (replays_alike settings all octets out counts fault (turned octets all (read_alike places.Input octets input all old read reads has)) h));
-      order = λ is. absurd (taken_not_before r mid new causes is);
-      faultless = λ is. faultless input output octets old read mid new reads uses bound opens writes (kept is);
-      whole = λ is all has short. subst IsEmpty (sym (writes.left places.Input ∙ opens.left places.Input)) (whole_read places.Input octets input all old read reads has short);
       input_bound = inr (writes.bound places.Input ∙ opens.others.bound places.Input input_output ∙ reads.bound);
       output_bound = inr (writes.bound places.Output ∙ bound.bound);
       uses = record {

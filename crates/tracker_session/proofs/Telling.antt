@@ -1,5 +1,5 @@
 -- What Screen got of a command: a line, or a text, or a line and then a text.
-use Rattle.std.proofs.Common.{◌≡◌, ◌≢◌, ◌∙◌, inl, inr, sym, subst, ℕ, List, ◌++◌, length, take, arith, Result, Ok, Err}
+use Rattle.std.proofs.Common.{◌≡◌, ◌≢◌, ◌∙◌, ◌⊎◌, ap, inl, inr, refl, sym, subst, ℕ, List, ◌++◌, length, take, arith, Result, Ok, Err}
 use Rattle.std.specs.Prelude.{OnOk, OnErr, Option}
 use Rattle.std.proofs.lemmas.List.{take_all}
 use Rattle.std.specs.Io.KnownBytes.{Appends}
@@ -67,3 +67,14 @@ told_line line count (Settings f) old mid new got faults told = absurd told
 told_line line count (Input offset) old mid new got faults told = absurd told
 told_line line count (Read spot) old mid new got faults told = absurd told
 told_line line count (NotProved i o) old mid new got faults told = absurd told
+
+-- the status where the line was to be told
+pub done_status : (line : List ℕ) (t : Status) (mid new : HostState) → LineTold line t mid new → t ≢ Memory → (t ≡ Done) ⊎ (t ≡ Write spots.Screen)
+done_status line Done mid new told memory = inl refl
+done_status line (Write spot) mid new told memory = inr (ap Write told.0)
+done_status line Memory mid new told memory = absurd (memory refl)
+done_status line Usage mid new told memory = absurd told
+done_status line (Settings f) mid new told memory = absurd told
+done_status line (Input offset) mid new told memory = absurd told
+done_status line (Read spot) mid new told memory = absurd told
+done_status line (NotProved i o) mid new told memory = absurd told

@@ -6,8 +6,9 @@ use Rattle.tracker_session.specs.declared.status.Status.{Status}
 use Rattle.tracker_session.specs.declared.status.Status.TheVariants.{Usage}
 use Rattle.tracker_session.specs.declared.words.Command.{Command}
 use Rattle.tracker_session.specs.declared.words.Command.TheVariants.{Replay, Check}
-use Rattle.tracker_session.specs.CheckEnds.{CheckCause, CommandEnded, EndOfCheck}
-use Rattle.tracker_session.specs.Ends.{EndOfReplay, IsOfReplay}
+use Rattle.tracker_session.specs.CheckEnds.{CheckCameTo, CommandEnded, EndOfCheck}
+use Rattle.tracker_session.specs.Ends.{EndOfReplay}
+use Rattle.tracker_session.specs.Stages.{CameTo}
 use Rattle.tracker_session.specs.Words.{AreCommand, HasNames, IsReplay, IsCheck, IsCommand, IsName}
 
 pub two : {A : Type 0} (xs : List A) (a b : A) → 2 ≤ length xs → length xs < 3 → a ≡ get_or xs 0 a → b ≡ get_or xs 1 b → xs ≡ a ∷ b ∷ []
@@ -59,5 +60,5 @@ check_of words (Check p) status old new c h prices k = subst (λ (x : List ℕ).
 check_of words (Replay s i o p w) status old new c h prices k = absurd (other_length (codes "replay") (string_bytes s) (string_bytes i) (string_bytes o) c.replay.prices (codes "check") prices (sym c.replay.whole ∙ k.whole))
 
 pub never_usage : (command : Command) (status : Status) (old new : HostState) → CommandEnded command status old new → status ≡ Usage → ⊥
-never_usage (Replay s i o p w) status old new h e = subst IsOfReplay e h.of_replay
-never_usage (Check p) status old new h e = subst (λ (x : Status). CheckCause x old new) e h.cause
+never_usage (Replay s i o p w) status old new h e = subst (λ (x : Status). CameTo (string_bytes s) (string_bytes i) (string_bytes o) x old new) e h.came
+never_usage (Check p) status old new h e = subst (λ (x : Status). CheckCameTo (string_bytes p) x old new) e h.came

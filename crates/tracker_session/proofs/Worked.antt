@@ -1,5 +1,5 @@
 -- Worked logs, computed by the definitions.
-use Rattle.std.proofs.Common.{◌≡◌, refl, ℕ, List, [], ◌∷◌}
+use Rattle.std.proofs.Common.{◌≡◌, refl, [], ◌∷◌}
 use Rattle.admission_log.specs.declared.events.Event.TheVariants.{Deliver, Tick}
 use Rattle.tracker_session.specs.Replay.{editions_of}
 

@@ -6,7 +6,7 @@ use Rattle.admission_log.specs.declared.settings.Settings as admission
 use Rattle.tracker_session.specs.declared.screen.Counts.{Counts}
 use Rattle.tracker_session.specs.declared.status.Spot.TheVariants as spots
 use Rattle.tracker_session.specs.declared.status.Status.{Status}
-use Rattle.tracker_session.specs.declared.status.Status.TheVariants.{Input, Read, Write, Memory}
+use Rattle.tracker_session.specs.declared.status.Status.TheVariants.{Input, Write, Memory}
 use Rattle.tracker_session.specs.Places.{Got, GotFront, HasFailed}
 use Rattle.tracker_session.specs.Replay.{Replays}
 
@@ -30,16 +30,7 @@ Answered settings octets (Err _) old new = ⊤
 abbrev pub ReplayedFront : admission.Settings → List ℕ → HostState → HostState → Type 0
 ReplayedFront settings octets old new = (output : List ℕ) (counts : Counts) (fault : Option ℕ) → Replays settings octets output counts fault → GotFront places.Output old new output
 
--- why a replay under settings broke off, if not for its input
-abbrev pub BreaksOff : Result Counts Status → HostState → HostState → Type 0
-BreaksOff (Ok counts) old new = ⊤
-BreaksOff (Err (Input offset)) old new = ⊤
-BreaksOff (Err (Read spot)) old new = (spot ≡ spots.Input) × HasFailed places.Input old new
-BreaksOff (Err (Write spot)) old new = (spot ≡ spots.Output) × HasFailed places.Output old new
-BreaksOff (Err Memory) old new = ⊤
-BreaksOff (Err _) old new = ⊥
-
--- .. where only writing could break it off
+-- why a replay of octets broke off, if not for their fault
 abbrev pub WritingBreaksOff : Result Counts Status → HostState → HostState → Type 0
 WritingBreaksOff (Ok counts) old new = ⊤
 WritingBreaksOff (Err (Input offset)) old new = ⊤

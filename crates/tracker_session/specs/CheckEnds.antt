@@ -1,6 +1,6 @@
 -- How the command that checks a price file ended.
-use Rattle.std.specs.Prelude.{◌≡◌, ◌≢◌, ◌≤◌, ⊤, ℕ, List, length, Some, string_bytes}
-use Rattle.io_traits.specs.Host.{HostState, IsEmpty}
+use Rattle.std.specs.Prelude.{◌≡◌, ◌≢◌, ◌≤◌, ◌⊎◌, ⊤, ℕ, List, string_bytes}
+use Rattle.io_traits.specs.Host.{HostState}
 use Rattle.io_traits.specs.declared.host.Place.{Place}
 use Rattle.io_traits.specs.declared.host.Place.TheVariants as places
 use Rattle.io_traits.specs.declared.host.Way.TheVariants as ways
@@ -10,24 +10,17 @@ use Rattle.tracker_session.specs.declared.status.Status.TheVariants.{Done, Input
 use Rattle.tracker_session.specs.declared.words.Command.{Command}
 use Rattle.tracker_session.specs.declared.words.Command.TheVariants.{Replay, Check}
 use Rattle.tracker_session.specs.Checking.{Verdict, proved, fails, fault, Checks}
-use Rattle.tracker_session.specs.Ends.{EndOfReplay, NoFailure}
-use Rattle.tracker_session.specs.Inputs.{limit}
+use Rattle.tracker_session.specs.Ends.{EndOfReplay}
 use Rattle.tracker_session.specs.Places.{BoundAtMost, Got, Has, HasFailed}
 use Rattle.tracker_session.specs.Screen.{proved_line, status_line}
+use Rattle.tracker_session.specs.Stages.{WasRead}
 use Rattle.tracker_session.specs.Telling.{ToldAtEnd, ToldBehind}
 
--- the status of a verdict
-abbrev pub status_of : Verdict → Status
-status_of (proved count) = Done
-status_of (fails index offset) = NotProved index offset
-status_of (fault offset) = Input offset
-
--- one of these three
-abbrev pub IsVerdict : Status → Type 0
-IsVerdict Done = Unit {0}
-IsVerdict (NotProved index offset) = Unit {0}
-IsVerdict (Input offset) = Unit {0}
-IsVerdict _ = ⊥
+-- the status of a verdict: where all prove it tells so, or that Screen failed
+abbrev pub IsStatusOfVerdict : Verdict → Status → Type 0
+IsStatusOfVerdict (proved count) status = (status ≡ Done) ⊎ (status ≡ Write spots.Screen)
+IsStatusOfVerdict (fails index offset) status = status ≡ NotProved index offset
+IsStatusOfVerdict (fault offset) status = status ≡ Input offset
 
 -- The status is the verdict on the octets. Where all prove, Screen got the line of their number, or a front of it where Screen failed.
 abbrev pub Says : List ℕ → Status → HostState → HostState → Type 0
@@ -37,12 +30,15 @@ Says octets (NotProved index offset) old new = Checks octets (fails index offset
 Says octets (Input offset) old new = Checks octets (fault offset)
 Says octets _ old new = ⊤
 
--- a place is told only where it failed, and no other status comes
-abbrev pub CheckCause : Status → HostState → HostState → Type 0
-CheckCause (Read spot) old new = (spot ≡ spots.Prices) × HasFailed places.Prices old new
-CheckCause (Write spot) old new = (spot ≡ spots.Screen) × HasFailed places.Screen old new
-CheckCause Memory old new = ⊤
-CheckCause status old new = IsVerdict status
+-- How far a check of a price file with this name came, by its status. A place is told only where it failed.
+abbrev pub CheckCameTo : List ℕ → Status → HostState → HostState → Type 0
+CheckCameTo prices (Read spots.Prices) old new = HasFailed places.Prices old new
+CheckCameTo prices (Input offset) old new = WasRead places.Prices prices old new
+CheckCameTo prices (NotProved index offset) old new = WasRead places.Prices prices old new
+CheckCameTo prices Done old new = WasRead places.Prices prices old new
+CheckCameTo prices (Write spots.Screen) old new = WasRead places.Prices prices old new × HasFailed places.Screen old new
+CheckCameTo prices Memory old new = ⊤
+CheckCameTo prices _ old new = ⊥
 
 -- Nothing changed but Prices and Screen: Prices was only bound and read, Screen only written.
 pub record UsesPricesAndScreen (old new : HostState) : Type 0 where
@@ -52,23 +48,15 @@ pub record UsesPricesAndScreen (old new : HostState) : Type 0 where
   pub faults : (p : Place) → p ≢ places.Prices → p ≢ places.Screen → new.faults p ≡ old.faults p
   pub later : (p : Place) → old.faults p ≤ new.faults p
 
--- Prices is bound to the name, for reading, and didn't fail.
-pub record PricesBound (prices : List ℕ) (old new : HostState) : Type 0 where
-  pub bound : new.bound places.Prices ≡ Some (ways.Read, prices)
-  pub faults : new.faults places.Prices ≡ old.faults places.Prices
-
 -- What came of checking the price file with this name.
 pub record EndOfCheck (prices : List ℕ) (status : Status) (old new : HostState) : Type 0 where
   -- The status is the verdict on what Prices had: all of it in the grammar and within the limit, and then each certificate.
   pub verdict : (octets : List ℕ) → Has places.Prices old octets → Says octets status old new
-  -- Where no place failed and memory isn't wanting, it is.
-  pub complete : (octets : List ℕ) (verdict : Verdict) → Has places.Prices old octets → Checks octets verdict → NoFailure old new → status ≢ Memory → status ≡ status_of verdict
-  -- A place is told only where it failed, and no other status comes.
-  pub cause : CheckCause status old new
-  -- Prices is bound at most once, to its word. At a verdict it is, and was read to its end or past the limit.
+  -- Where Prices didn't fail and memory isn't wanting, the status is that of the verdict, also where Screen fails.
+  pub complete : (octets : List ℕ) (verdict : Verdict) → Has places.Prices old octets → Checks octets verdict → (HasFailed places.Prices old new → ⊥) → status ≢ Memory → IsStatusOfVerdict verdict status
+  -- How far it came; Prices is bound at most once, to its word.
+  pub came : CheckCameTo prices status old new
   pub bound : BoundAtMost (new.bound places.Prices) ways.Read prices
-  pub faultless : IsVerdict status → PricesBound prices old new
-  pub whole : IsVerdict status → (octets : List ℕ) → Has places.Prices old octets → length octets ≤ limit → IsEmpty (new.left places.Prices)
   -- Screen got the line of the number of certificates at Done, and else the text of the status, cut short only where Screen failed.
   pub screen : ToldAtEnd proved_line status old new
   -- No other place is bound, read or written.

@@ -14,6 +14,7 @@ pub mod Replay
 pub mod Runs
 pub mod Screen
 pub mod Setting
+pub mod Stages
 pub mod Status
 pub mod Steps
 pub mod Tallies

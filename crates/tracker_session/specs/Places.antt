@@ -69,12 +69,6 @@ pub record UsesFour (old new : HostState) : Type 0 where
   pub prices : new.faults places.Prices ≡ old.faults places.Prices
   pub later : (p : Place) → old.faults p ≤ new.faults p
 
--- Input and Output are bound, each to its name, and no place failed.
-pub record IsFaultless (input output : List ℕ) (old new : HostState) : Type 0 where
-  pub input_bound : new.bound places.Input ≡ Some (ways.Read, input)
-  pub output_bound : new.bound places.Output ≡ Some (ways.Write, output)
-  pub faults : (p : Place) → new.faults p ≡ old.faults p
-
 -- The place was bound to the name, and these octets were read of it: all that it had, unless they pass the limit.
 pub record PlaceRead (place : Place) (octets name : List ℕ) (old new : HostState) : Type 0 where
   pub bound : new.bound place ≡ Some (ways.Read, name)

@@ -1,5 +1,5 @@
 -- What a replay gives for the settings and the octets of its input: the log of its items, the editions at the ticks of that log, and the counts.
-use Rattle.std.specs.Prelude.{◌≡◌, ◌<◌, ◌≤◌, ℕ, ◌+◌, List, [], ◌∷◌, Option, Some, None}
+use Rattle.std.specs.Prelude.{◌≡◌, ◌<◌, ◌≤◌, ℕ, List, [], ◌∷◌, Option, Some, None}
 use Rattle.std.specs.List.{AllZip, concat, enumerate_from, filter_map}
 use Rattle.std.specs.Option.{option_map}
 use Rattle.asterix_frame.specs.Datagrams.{Content, IsDatagram, DatagramFault}

@@ -1,26 +1,12 @@
 -- What the screen says at the end of a command: one line for each way to end.
-use Rattle.std.specs.Prelude.{ℕ, List, [], ◌++◌, codes, Option, Some, None}
+use Rattle.std.specs.Prelude.{ℕ, List, [], ◌++◌, codes}
 use Rattle.std.specs.Fmt.{decimal}
-use Rattle.settings_text.specs.declared.faults.SettingsFault.{SettingsFault}
-use Rattle.settings_text.specs.declared.faults.SettingsFault.TheVariants as faults
+use Rattle.settings_text.specs.Texts.{fault_text}
 use Rattle.tracker_session.specs.declared.screen.Counts.{Counts}
 use Rattle.tracker_session.specs.declared.status.Spot.{Spot}
 use Rattle.tracker_session.specs.declared.status.Spot.TheVariants as spots
 use Rattle.tracker_session.specs.declared.status.Status.{Status}
 use Rattle.tracker_session.specs.declared.status.Status.TheVariants.{Done, Usage, Settings, Input, Read, Write, Memory, NotProved}
-
--- a key's number, and the radar whose key it is
-abbrev pub key_line : List ℕ → ℕ → Option ℕ → List ℕ
-key_line what key None = codes "settings: " ++ (what ++ (codes " key " ++ (decimal key ++ codes "\n")))
-key_line what key (Some radar) = codes "settings: " ++ (what ++ (codes " key " ++ (decimal key ++ (codes " of radar " ++ (decimal radar ++ codes "\n")))))
-
-abbrev pub settings_line : SettingsFault → List ℕ
-settings_line faults.Syntax = codes "settings: not a document\n"
-settings_line (faults.Missing path) = key_line (codes "missing") path.key path.radar
-settings_line (faults.Kind path) = key_line (codes "kind of") path.key path.radar
-settings_line (faults.Range path) = key_line (codes "range of") path.key path.radar
-settings_line faults.Unknown = codes "settings: unknown key\n"
-settings_line (faults.Duplicate radar first) = codes "settings: radar " ++ (decimal radar ++ (codes " repeats radar " ++ (decimal first ++ codes "\n")))
 
 abbrev pub spot_line : List ℕ → Spot → List ℕ
 spot_line what spots.Settings = what ++ codes ": Settings\n"
@@ -36,7 +22,7 @@ spot_line what spots.Clock = what ++ codes ": Clock\n"
 abbrev pub status_line : Status → List ℕ
 status_line Done = []
 status_line Usage = codes "usage: tracker replay, check, scene, exercise or serve\n"
-status_line (Settings fault) = settings_line fault
+status_line (Settings fault) = fault_text fault ++ codes "\n"
 status_line (Input offset) = codes "input: offset " ++ (decimal offset ++ codes "\n")
 status_line (Read spot) = spot_line (codes "read") spot
 status_line (Write spot) = spot_line (codes "write") spot

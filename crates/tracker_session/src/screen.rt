@@ -1,9 +1,8 @@
 // What the screen says at the end of a command.
 ghost use Rattle.std.specs.Prelude.{◌≡◌, IfOk, string_bytes};
-ghost use Rattle.tracker_session.specs.Screen.{counts_line, no_counts, plots_text, others_text, key_line, proved_line, settings_line, spot_line, status_line};
+ghost use Rattle.tracker_session.specs.Screen.{counts_line, no_counts, plots_text, others_text, proved_line, spot_line, status_line};
 
 use crate::status::{Spot, Status};
-use settings_text::{KeyPath, SettingsFault};
 use std::alloc::{AllocError, Global};
 
 /// What came of the items of a replay.
@@ -103,7 +102,7 @@ pub fn status_line(alloc: Global, status: &Status) -> Result<String, AllocError>
             alloc,
             "usage: tracker replay, check, scene, exercise or serve\n",
         ),
-        Status::Settings(fault) => settings_line(alloc, fault),
+        Status::Settings(fault) => format!(in alloc; "{fault}\n"),
         Status::Input { offset } => format!(in alloc; "input: offset {offset}\n"),
         Status::Read(spot) => spot_line(alloc, "read", *spot),
         Status::Write(spot) => spot_line(alloc, "write", *spot),
@@ -111,33 +110,6 @@ pub fn status_line(alloc: Global, status: &Status) -> Result<String, AllocError>
         Status::NotProved { index, offset } => {
             format!(in alloc; "not proved: certificate {index} at offset {offset}\n")
         }
-    }
-}
-
-// The line of a fault of the settings.
-fn settings_line(alloc: Global, fault: &SettingsFault) -> Result<String, AllocError>
-    ensures { IfOk result (λ s. string_bytes s ≡ settings_line fault.now) }
-{
-    match fault {
-        SettingsFault::Syntax => String::from_str(alloc, "settings: not a document\n"),
-        SettingsFault::Missing(path) => key_line(alloc, "missing", path),
-        SettingsFault::Kind(path) => key_line(alloc, "kind of", path),
-        SettingsFault::Range(path) => key_line(alloc, "range of", path),
-        SettingsFault::Unknown => String::from_str(alloc, "settings: unknown key\n"),
-        SettingsFault::Duplicate { radar, first } => {
-            format!(in alloc; "settings: radar {radar} repeats radar {first}\n")
-        }
-    }
-}
-
-// The line of what is wrong with a key.
-fn key_line(alloc: Global, what: &str, path: &KeyPath) -> Result<String, AllocError>
-    ensures { IfOk result (λ s. string_bytes s ≡ key_line what.now path.now.key path.now.radar) }
-{
-    let key = path.key;
-    match path.radar {
-        None => format!(in alloc; "settings: {what} key {key}\n"),
-        Some(radar) => format!(in alloc; "settings: {what} key {key} of radar {radar}\n"),
     }
 }
 
