@@ -1,0 +1,8 @@
+pub mod Drawing
+pub mod Full
+pub mod Least
+pub mod Filing
+pub mod Spelled
+pub mod Certs
+pub mod Bounded
+pub mod Loads

@@ -1,0 +1,64 @@
+-- Numbers and words.
+use Rattle.std.proofs.Common.{◌≡◌, ◌≢◌, ◌∙◌, ap, sym, refl, subst, inl, inr, ℕ, ◌<◌, ◌^◌, List, length, get_or, Bool, true, Option, Some, Result, Ok, Err, arith}
+use Rattle.std.specs.Fmt.{decimal}
+use Rattle.std.specs.Str.Parse.{AllDigits, ParsesUnsigned, digits_value}
+use Rattle.std.proofs.lemmas.Bool.{cases_lt}
+use Rattle.std.proofs.lemmas.Str.Parse.{IsNumeralModel, numerals_by_value, tells_digits, parse_plain, not_in_digits}
+use Rattle.std.proofs.lemmas.Fmt.{decimal-digits_value, decimal_digit, decimal_injective, decimal_nonempty, digits_decimal, first_decimal, parse-decimal}
+use Rattle.std.specs.Prelude.{IfSome, IsNone, IsTrue, ◌↔◌}
+use Rattle.std.specs.Result.{result_ok}
+use Rattle.pairing_load.specs.Words.{IsPlain}
+
+own : IsNumeralModel (AllDigits 10) (digits_value 10)
+own = numerals_by_value (AllDigits 10) tells_digits
+
+-- what a plain word is read as, spells it
+pub spells : {E : Type 0} (word : List ℕ) (n : ℕ) (r : Result ℕ E) → IsPlain word → ParsesUnsigned 64 10 word r → r ≡ Ok n → word ≡ decimal n
+spells {E} word n (Ok m) plain h e =
+    let k : (AllDigits 10 word × (0 < length word) × (digits_value 10 word < 2 ^ 64)) × (m ≡ digits_value 10 word) = parse_plain own {E = E} 64 word (Ok m) h plain.unsigned in
+    let same : m ≡ n = (cc) in
+    sym (decimal-digits_value own word k.0.0 k.0.1 plain.short k.0.2) ∙ ap decimal (sym k.1 ∙ same)
+spells {E} word n (Err f) plain h e = cc
+
+pub spells_none : {E : Type 0} (word : List ℕ) (n : ℕ) (f : E) (r : Result ℕ E) → ParsesUnsigned 64 10 word r → r ≡ Err f → n < 2 ^ 64 → word ≢ decimal n
+spells_none {E} word n f r h e lt is =
+    let ok : r ≡ Ok n = parse-decimal 64 n word r lt lt is h in
+    cc
+
+-- a number's digits are a plain word
+pub decimal_plain : (word : List ℕ) (n : ℕ) → n < 2 ^ 64 → word ≡ decimal n → IsPlain word
+decimal_plain word n lt e =
+    let some = decimal_nonempty n lt in
+    let unsigned : get_or (decimal n) 0 0 ≢ 43 = not_in_digits own (decimal n) 43 (digits_decimal own n lt) (λ h. omega (arith, h)) 0 some in
+    let short : get_or (decimal n) 0 0 ≡ 48 → length (decimal n) ≡ 1 = λ z. elim (cases_lt 0 n) [
+      | inl high ↦ absurd (omega (arith, z, first_decimal n high lt))
+      | inr low ↦ let zero' : n ≡ 0 = omega (arith, low) in ap (λ (m : ℕ). length (decimal m)) zero' ∙ ap length (decimal_digit 0 (omega arith))
+    ] in
+    record {
+      unsigned = λ f. unsigned (ap (λ (w : List ℕ). get_or w 0 0) (sym e) ∙ f);
+      short = λ z. ap length e ∙ short (ap (λ (w : List ℕ). get_or w 0 0) (sym e) ∙ z);
+    }
+
+pub plain_of : {b : Bool} {octets word : List ℕ} → IsTrue b ↔ IsPlain octets → octets ≡ word → b ≡ true → IsPlain word
+plain_of {b} {octets} {word} h e t = subst IsPlain e (h.0 t)
+
+pub told_plain : {b : Bool} {octets word : List ℕ} → IsTrue b ↔ IsPlain octets → octets ≡ word → IsPlain word → b ≡ true
+told_plain {b} {octets} {word} h e k = h.1 (subst IsPlain (sym e) k)
+
+same_answer : (E : Type 0) (m : ℕ) → let r : Result ℕ E = Ok m in r ≡ r
+same_answer E m = refl
+
+-- what the word is read as
+pub number_spelled : {E : Type 0} (word : List ℕ) (r : Result ℕ E) (o : Option ℕ) → IsPlain word → ParsesUnsigned 64 10 word r → o ≡ result_ok r → IfSome o (λ n. word ≡ decimal n)
+number_spelled {E} word (Ok m) o plain h e = subst (λ (p : Option ℕ). IfSome p (λ n. word ≡ decimal n)) (sym e) (spells {E = E} word m (Ok m) plain h (same_answer E m))
+number_spelled {E} word (Err f) o plain h e = subst (λ (p : Option ℕ). IfSome p (λ n. word ≡ decimal n)) (sym e) tt
+
+pub number_refused : {E : Type 0} (word : List ℕ) (r : Result ℕ E) (o : Option ℕ) → ParsesUnsigned 64 10 word r → o ≡ result_ok r → IsNone o → (n : ℕ) → n < 2 ^ 64 → word ≢ decimal n
+number_refused {E} word (Ok m) o h e none n lt is =
+    let clash : IsNone (Some m) = subst (λ (p : Option ℕ). IsNone p) e none in
+    cc
+number_refused {E} word (Err f) o h e none n lt is = spells_none word n f (Err f) h refl lt is
+
+-- a word spells one number
+pub one_number : (word : List ℕ) (m n : ℕ) → m < 2 ^ 64 → n < 2 ^ 64 → word ≡ decimal m → word ≡ decimal n → m ≡ n
+one_number word m n a b e f = decimal_injective m n a b (sym e ∙ f)
