@@ -1,5 +1,5 @@
 -- Whole numbers: rounding, roots, the piecewise linear power of two, and time.
-use Rattle.std.specs.Prelude.{◌≡◌, ◌⊎◌, ◌<◌, ◌≤◌, ℕ, zero, suc, ◌+◌, ◌-◌, ◌*◌, ◌/◌, ◌%◌, ◌^◌, nat_le, if◌then◌else◌, ℤ, pos, ◌+ℤ◌, ◌*ℤ◌}
+use Rattle.std.specs.Prelude.{◌≡◌, ◌⊎◌, ◌<◌, ◌≤◌, ℕ, zero, suc, ◌+◌, ◌-◌, ◌*◌, ◌/◌, ◌%◌, ◌^◌, nat_le, if◌then◌else◌, ℤ, pos, ◌+ℤ◌, ◌*ℤ◌, ◌≤ℤ◌}
 use Rattle.std.specs.Int.{int_div_euclid, int_max, int_min}
 
 -- a / b to the nearest whole number, halves upwards, for a positive b: (2a + b) / (2b), rounded down
@@ -9,6 +9,11 @@ round a b = int_div_euclid (pos 2 *ℤ a +ℤ b) (pos 2 *ℤ b)
 -- the nearest number in the range
 abbrev pub clamp : ℤ → ℤ → ℤ → ℤ
 clamp x low high = int_max low (int_min x high)
+
+-- x is neither below low nor above high
+pub record IsBetween (low x high : ℤ) : Type 0 where
+  pub from : low ≤ℤ x
+  pub to : x ≤ℤ high
 
 -- r is the greatest whole number whose square is at most n
 pub record IsRoot (n r : ℕ) : Type 0 where

@@ -1,19 +1,20 @@
+// The key of a plot, and the one order of all plots.
 ghost use Rattle.std.specs.Prelude.{◌≡◌};
 ghost use Rattle.trk_base.specs.Numbers.{slot_of};
 
 use std::cmp::Ordering;
 
-/// Where a plot stands in the one order of all plots. Keys are compared by slot, then radar, then
-/// time, then arrival.
+/// What a plot is told by, and ordered by among all plots: by slot, then radar, then time, then
+/// arrival.
 #[derive(Clone, Copy, Debug, PartialEq, Eq)]
 pub struct Key {
     /// The slot of the time.
     pub slot: u64,
-    /// The radar's place in the settings, from 0.
+    /// The radar's index in the settings, from 0.
     pub radar: u8,
     /// The time in 1/128 s, counted on over midnights.
     pub time: u64,
-    /// The place of the plot among all plots that were admitted, from 0.
+    /// Its number among all plots that were admitted, from 0.
     pub arrival: u64,
     pub ghost in_slot: { slot ≡ slot_of time },
 }

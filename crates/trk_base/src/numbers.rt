@@ -1,3 +1,4 @@
+// Whole numbers: rounding, roots, and the piecewise linear power of two.
 ghost use Rattle.std.specs.Prelude.{◌≡◌, ◌^◌, ◌<◌, ◌≤◌, ℕ, pos, ◌<ℤ◌, unsigned_abs};
 ghost use Rattle.trk_base.specs.Numbers.{round, isqrt, IsRoot, exp2_lin};
 
@@ -12,12 +13,46 @@ pub fn round_div(a: i128, b: i128) -> i128
     (2 * a + b).div_euclid(2 * b)
 }
 
-/// The greatest whole number whose square is at most `n`.
+/// The greatest whole number whose square is at most `n`, by Newton's method.
+#[inline]
 pub fn isqrt(n: u128) -> u64
     ensures value { result ≡ isqrt n }
     ensures root { IsRoot n result }
 {
-    n.isqrt() as u64
+    if n >> 64 == 0 {
+        root_of_64(n as u64)
+    } else {
+        root_of_128(n)
+    }
+}
+
+// The root of a number of 64 bits. It begins with the power of two next below the root: the first
+// step of Newton's method from there takes no division, and three more are enough.
+fn root_of_64(n: u64) -> u64
+    ensures root { IsRoot n result }
+    ensures small { result < 2 ^ 32 }
+{
+    let half = (64 - n.leading_zeros()) / 2;
+    let mut root = ((1 << half) + (n >> half)) / 2;
+    while root * root > n {
+        root = (root + n / root) / 2;
+    }
+    root
+}
+
+// The root of a larger number. The root of its 64 upper bits has half of the digits, so one or two
+// steps of Newton's method are left.
+fn root_of_128(n: u128) -> u64
+    requires large { 2 ^ 64 ≤ n }
+    ensures root { IsRoot n result }
+{
+    let half = (65 - n.leading_zeros()) / 2;
+    let upper = root_of_64((n >> (2 * half)) as u64);
+    let mut estimate = ((upper << half) + ((1 << half) - 1)) as u128;
+    while estimate * estimate > n {
+        estimate = (estimate + n / estimate) / 2;
+    }
+    estimate as u64
 }
 
 /// Two to the power of `-q / 65,536`, in units of 2^-30: exact at whole powers, and on the chord

@@ -1,8 +1,12 @@
+// Plots as a radar reports them.
 ghost use Rattle.std.specs.Prelude.{◌<◌, ◌≤◌};
 ghost use Rattle.trk_base.specs.Ranges.{IsKind, IsTimeOfDay, IsCode, IsLevel, IsAddress};
 
 /// A plot as the radar reports it: what is used of an ASTERIX CAT048 target report (Part 4).
-#[derive(Clone, Copy, Debug, PartialEq, Eq)]
+///
+/// Plots are compared by their fields in this order. `raw_plot_order` says that this order is
+/// total, and that only a plot itself compares equal to it.
+#[derive(Clone, Copy, Debug, PartialEq, Eq, PartialOrd, Ord)]
 pub struct RawPlot {
     /// System area code, I048/010.
     pub sac: u8,

@@ -1,8 +1,13 @@
+ghost use Rattle.std.specs.Prelude.{◌≡◌, ◌+◌, ◌<◌};
+ghost use Rattle.trk_base.specs.Ranges.{IsCode, IsLevel};
+
 use crate::*;
+use std::marker::Brand;
+use std::sync::ledger::{Blank, Ledger};
 use std::test::Fail;
 
 // The largest divisor and dividend that `round_div` takes.
-const MOST: i128 = (1 << 125) - 1;
+const GREATEST: i128 = (1 << 125) - 1;
 
 #[test]
 fn rounds_halves_upwards(rt: HostRuntime) {
@@ -13,14 +18,14 @@ fn rounds_halves_upwards(rt: HostRuntime) {
     assert_eq!(rt; round_div(-5, 3), -2);
     assert_eq!(rt; round_div(-4, 3), -1);
     assert_eq!(rt; round_div(0, 7), 0);
-    assert_eq!(rt; round_div(MOST, 1), MOST);
-    assert_eq!(rt; round_div(-MOST, 1), -MOST);
-    assert_eq!(rt; round_div(MOST, MOST), 1);
+    assert_eq!(rt; round_div(GREATEST, 1), GREATEST);
+    assert_eq!(rt; round_div(-GREATEST, 1), -GREATEST);
+    assert_eq!(rt; round_div(GREATEST, GREATEST), 1);
 }
 
 #[test]
 fn takes_roots(rt: HostRuntime) {
-    let most: u128 = 0xFFFF_FFFF_FFFF_FFFF;
+    let greatest: u128 = 0xFFFF_FFFF_FFFF_FFFF;
     for (n, want) in [
         (0, 0),
         (1, 1),
@@ -28,8 +33,10 @@ fn takes_roots(rt: HostRuntime) {
         (4, 2),
         (99, 9),
         (100, 10),
-        (most * most - 1, 0xFFFF_FFFF_FFFF_FFFE),
-        (most * most, 0xFFFF_FFFF_FFFF_FFFF),
+        ((1 << 64) - 1, 0xFFFF_FFFF),
+        (1 << 64, 1 << 32),
+        (greatest * greatest - 1, 0xFFFF_FFFF_FFFF_FFFE),
+        (greatest * greatest, 0xFFFF_FFFF_FFFF_FFFF),
         (u128::MAX, 0xFFFF_FFFF_FFFF_FFFF),
     ] {
         let n: u128 = n;
@@ -101,6 +108,64 @@ fn orders_keys(rt: HostRuntime) {
         },
     ];
     assert!(rt; keys.is_sorted_by(|a, b| a < b));
+}
+
+// A plot of one radar at one time.
+fn reported(rho: u16, code: Option<u16>, level: Option<i16>) -> RawPlot
+    requires code { IsCode code }
+    requires level { IsLevel level }
+{
+    RawPlot {
+        sac: 25,
+        sic: 201,
+        tod: 100,
+        rho,
+        theta: 3,
+        kind: 5,
+        spi: false,
+        code,
+        level,
+        address: None,
+    }
+}
+
+#[test]
+fn orders_reported_plots(rt: HostRuntime) {
+    let plots = [
+        reported(2, None, None),
+        reported(2, None, Some(-4)),
+        reported(2, None, Some(3)),
+        reported(2, Some(0), None),
+        reported(9, None, None),
+    ];
+    assert!(rt; plots.is_sorted_by(|a, b| a < b));
+    assert!(rt; plots[0] == plots[0]);
+}
+
+// What is left of a ticket for `n` steps once one is spent.
+fn left_of_charged<L: Ledger>(n: u64, blank: Blank) -> Ticket
+    requires name { blank.name ≡ L.name }
+    requires parts { blank.parts ≡ L.parts }
+    requires one { blank.parts ≡ 1 }
+    requires some { 0 < n }
+    ensures { result + 1 ≡ n }
+{
+    let mut steps = Steps::<L>::new(blank);
+    let mut ticket = charge(n, &mut steps);
+    ticket.spend();
+    ticket
+}
+
+#[test]
+fn spends_what_was_charged(rt: HostRuntime) {
+    let mut ticket = left_of_charged::<Brand>(3, Blank::new(1));
+    ticket.spend();
+    ticket.spend();
+    one_home();
+    raw_plot_order();
+    assert!(rt; MISS_COST == u32::from(GATE_COST) + 1);
+    assert!(rt; PLANE_BOUND == 64 * 4_000_000);
+    assert!(rt; COUNT_LIMIT - 1 == u64::MAX / 4);
 }
 
 #[test]

@@ -1,7 +1,9 @@
+// Time in 1/128 s: days, slots, and times of day counted on over midnights.
 ghost use Rattle.std.specs.Prelude.{◌≡◌, ◌^◌, ◌<◌, ℕ};
 ghost use Rattle.trk_base.specs.Numbers.{slot_of, unwrapped, IsUnwrapped};
 
-/// The units of time, of 1/128 s, in a day.
+/// The units of time, of 1/128 s, in a day: an ASTERIX time of day (I048/140, I034/030) is below
+/// it.
 pub const DAY: u64 = 11_059_200;
 
 /// The slot of a time in 1/128 s. A slot is half a second.
