@@ -85,6 +85,6 @@ outside_all (p ∷ ps) qs r all out =
     let both = and_true (is_in qs p) (all_in ps qs) all in
     neither (same_place r p) (is_in ps r) (or_false (same_place r p) false (outside qs p r both.0 out)).0 (outside_all ps qs r both.1 out)
   where
-  neither : (b c : Bool) → b ≡ false → c ≡ false → (b || c) ≡ false
-  neither false c e f = f
-  neither true c e f = absurd cc
+    neither : (b c : Bool) → b ≡ false → c ≡ false → (b || c) ≡ false
+    neither false c e f = f
+    neither true c e f = absurd cc

@@ -1,5 +1,5 @@
 -- What runs touched, one after the other.
-use Rattle.std.proofs.Common.{◌∙◌, refl, le_refl, le_trans, List, [], ◌∷◌}
+use Rattle.std.proofs.Common.{◌∙◌, refl, le_refl, le_trans, List}
 use Rattle.std.specs.Prelude.{IsTrue}
 use Rattle.io_traits.specs.Host.{HostState}
 use Rattle.io_traits.specs.Touching.{Touches}

@@ -33,11 +33,11 @@ pub record AppendsPrefix (n : ℕ) (piece : List ℕ) (got got' : Option (List �
   pub prefix : Appends got got' (take n piece)
 
 -- a read took the prefix that it gave, and a failed one nothing
-abbrev pub TakesOctets : {E : Type 0} → Result ℕ E → List ℕ → Option (List ℕ) → Option (List ℕ) → Type 0
-TakesOctets result piece left left' =
+abbrev pub Reads : {E : Type 0} → Result ℕ E → List ℕ → Option (List ℕ) → Option (List ℕ) → Type 0
+Reads result piece left left' =
     MatchResult result (λ n. TakesPrefix n piece left left') (λ _. left' ≡ left)
 
 -- a write appended the prefix that it told, and a failed one nothing
-abbrev pub AppendsOctets : {E : Type 0} → Result ℕ E → List ℕ → Option (List ℕ) → Option (List ℕ) → Type 0
-AppendsOctets result piece got got' =
+abbrev pub Writes : {E : Type 0} → Result ℕ E → List ℕ → Option (List ℕ) → Option (List ℕ) → Type 0
+Writes result piece got got' =
     MatchResult result (λ n. AppendsPrefix n piece got got') (λ _. got' ≡ got)

@@ -22,7 +22,7 @@ pub struct FileHost<R: Files + Print + Drop> {
 impl<R: Files + Print + Drop> FileHost<R> {
     ghost use Rattle.std.specs.Prelude.{None};
     ghost use Rattle.io_traits.specs.Faults.{HasCause};
-    ghost use Rattle.io_traits.specs.Host.{AppendsOctets};
+    ghost use Rattle.io_traits.specs.Host.{Writes};
     ghost use Rattle.io_traits.specs.declared.host.Place.{Place};
 
     /// A host over the files and the standard output of a runtime. No place is bound, and none has failed.
@@ -41,7 +41,7 @@ impl<R: Files + Print + Drop> FileHost<R> {
     }
 
     fn print(&mut self, piece: &[u8]) -> Result<usize, Failed>
-        ensures written { AppendsOctets result piece.now None None }
+        ensures written { Writes result piece.now None None }
         ensures cause { HasCause self.old.screen_faults self.new.screen_faults result }
         ensures later { self.old.screen_faults ≤ self.new.screen_faults }
         ensures settings { self.new.settings ≡ self.old.settings }

@@ -31,7 +31,7 @@ pub struct Failed;
 pub trait Host {
     ghost use Rattle.io_traits.specs.Faults.{HasCause};
     ghost use Rattle.io_traits.specs.Touching.{Touches};
-    ghost use Rattle.io_traits.specs.Host.{HostState, AppendsOctets, IsBoundFor, IsEmpty, TakesOctets};
+    ghost use Rattle.io_traits.specs.Host.{HostState, IsBoundFor, IsEmpty, Reads, Writes};
     ghost use Rattle.io_traits.specs.declared.host.Place.{Place};
     ghost use Rattle.io_traits.specs.declared.host.Way.{Way};
 
@@ -53,7 +53,7 @@ pub trait Host {
     fn read(&mut self, place: Place, piece: &mut [u8]) -> Result<usize, Failed>
         requires room { 0 < length piece.old }
         requires bound { IsBoundFor Way.Read (state self.old) place }
-        ensures taken { TakesOctets result piece.new ((state self.old).left place) ((state self.new).left place) }
+        ensures taken { Reads result piece.new ((state self.old).left place) ((state self.new).left place) }
         ensures cause { HasCause ((state self.old).faults place) ((state self.new).faults place) result }
         ensures touches { Touches [] (place ∷ []) [] (state self.old) (state self.new) };
 
@@ -62,7 +62,7 @@ pub trait Host {
     fn write(&mut self, place: Place, piece: &[u8]) -> Result<usize, Failed>
         requires some { 0 < length piece.now }
         requires bound { place ≢ Place.Screen → IsBoundFor Way.Write (state self.old) place }
-        ensures appended { AppendsOctets result piece.now ((state self.old).got place) ((state self.new).got place) }
+        ensures appended { Writes result piece.now ((state self.old).got place) ((state self.new).got place) }
         ensures cause { HasCause ((state self.old).faults place) ((state self.new).faults place) result }
         ensures touches { Touches [] [] (place ∷ []) (state self.old) (state self.new) };
 

@@ -162,7 +162,7 @@ impl MemHost {
 
 impl Host for MemHost {
     ghost use Rattle.io_traits.specs.Faults.{HasCause};
-    ghost use Rattle.io_traits.specs.Host.{AppendsOctets, IsBoundFor, TakesOctets};
+    ghost use Rattle.io_traits.specs.Host.{Writes, IsBoundFor, Reads};
     ghost use Rattle.io_traits.specs.Touching.{Touches};
     ghost use Rattle.io_traits.specs.MemHostLaws.{unbound_is_empty as unbound_is_empty_law};
     ghost use Rattle.io_traits.specs.MemHost.{CountsCall, HasRoom, NeverFails, fails_next, got_of, left_of, size_of, state_of};
@@ -197,7 +197,7 @@ impl Host for MemHost {
     fn read(&mut self, place: Place, piece: &mut [u8]) -> Result<usize, Failed>
         requires room { 0 < length piece.old }
         requires bound { IsBoundFor Way.Read (state_of self.old) place }
-        ensures taken { TakesOctets result piece.new ((state_of self.old).left place) ((state_of self.new).left place) }
+        ensures taken { Reads result piece.new ((state_of self.old).left place) ((state_of self.new).left place) }
         ensures cause { HasCause ((state_of self.old).faults place) ((state_of self.new).faults place) result }
         ensures touches { Touches [] (place ∷ []) [] (state_of self.old) (state_of self.new) }
         ensures counted { CountsCall self.old self.new }
@@ -218,7 +218,7 @@ impl Host for MemHost {
     fn write(&mut self, place: Place, piece: &[u8]) -> Result<usize, Failed>
         requires some { 0 < length piece.now }
         requires bound { place ≢ Place.Screen → IsBoundFor Way.Write (state_of self.old) place }
-        ensures appended { AppendsOctets result piece.now ((state_of self.old).got place) ((state_of self.new).got place) }
+        ensures appended { Writes result piece.now ((state_of self.old).got place) ((state_of self.new).got place) }
         ensures cause { HasCause ((state_of self.old).faults place) ((state_of self.new).faults place) result }
         ensures touches { Touches [] [] (place ∷ []) (state_of self.old) (state_of self.new) }
         ensures counted { CountsCall self.old self.new }

@@ -23,7 +23,7 @@ pub(crate) struct Port<F: Drop> {
 impl<F: Drop + Read + Write> Port<F> {
     ghost use Rattle.std.specs.Prelude.{None, Some};
     ghost use Rattle.io_traits.specs.Faults.{HasCause, Rose};
-    ghost use Rattle.io_traits.specs.Host.{AppendsOctets, TakesOctets};
+    ghost use Rattle.io_traits.specs.Host.{Writes, Reads};
     ghost use Rattle.io_traits.specs.FileHost.{bound_of};
 
     pub(crate) fn unbound() -> Self
@@ -74,7 +74,7 @@ impl<F: Drop + Read + Write> Port<F> {
 
     pub(crate) fn read(&mut self, piece: &mut [u8]) -> Result<usize, Failed>
         requires { 0 < length piece.old }
-        ensures read { TakesOctets result piece.new None None }
+        ensures read { Reads result piece.new None None }
         ensures bound { self.new.state.bound ≡ self.old.state.bound }
         ensures cause { HasCause self.old.state.faults self.new.state.faults result }
         ensures later { self.old.state.faults ≤ self.new.state.faults }
@@ -91,7 +91,7 @@ impl<F: Drop + Read + Write> Port<F> {
 
     pub(crate) fn write(&mut self, piece: &[u8]) -> Result<usize, Failed>
         requires { 0 < length piece.now }
-        ensures written { AppendsOctets result piece.now None None }
+        ensures written { Writes result piece.now None None }
         ensures bound { self.new.state.bound ≡ self.old.state.bound }
         ensures cause { HasCause self.old.state.faults self.new.state.faults result }
         ensures later { self.old.state.faults ≤ self.new.state.faults }

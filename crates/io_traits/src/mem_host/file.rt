@@ -17,7 +17,7 @@ pub(crate) struct File {
 impl File {
     ghost use Rattle.std.specs.Prelude.{Some, None};
     ghost use Rattle.io_traits.specs.Faults.{HasCause};
-    ghost use Rattle.io_traits.specs.Host.{AppendsOctets, TakesOctets};
+    ghost use Rattle.io_traits.specs.Host.{Writes, Reads};
     ghost use Rattle.io_traits.specs.Store.{store_left, store_got};
     ghost use Rattle.io_traits.specs.MemHost.{file_bound};
 
@@ -69,7 +69,7 @@ impl File {
 
     pub(crate) fn read(&mut self, fails: bool, piece: &mut [u8]) -> Result<usize, Failed>
         requires { 0 < length piece.old }
-        ensures taken { TakesOctets result piece.new (Some (store_left self.old.store)) (Some (store_left self.new.store)) }
+        ensures taken { Reads result piece.new (Some (store_left self.old.store)) (Some (store_left self.new.store)) }
         ensures bound { self.new.bound ≡ self.old.bound }
         ensures got { store_got self.new.store ≡ store_got self.old.store }
         ensures size { vec_len self.new.store.got ≡ vec_len self.old.store.got }
@@ -84,7 +84,7 @@ impl File {
     pub(crate) fn write(&mut self, fails: bool, piece: &[u8]) -> Result<usize, Failed>
         requires some { 0 < length piece.now }
         requires bound { option_map (λ binding. binding.0) (file_bound self.old) ≡ Some Way.Write }
-        ensures appended { AppendsOctets result piece.now (Some (store_got self.old.store)) (Some (store_got self.new.store)) }
+        ensures appended { Writes result piece.now (Some (store_got self.old.store)) (Some (store_got self.new.store)) }
         ensures bound { self.new.bound ≡ self.old.bound }
         ensures left { store_left self.new.store ≡ store_left self.old.store }
         ensures size { vec_len self.new.store.got ≡ vec_len self.old.store.got }

@@ -20,7 +20,7 @@ pub(crate) struct Store {
 impl Store {
     ghost use Rattle.std.specs.Prelude.{Some};
     ghost use Rattle.io_traits.specs.Faults.{HasCause, Rose};
-    ghost use Rattle.io_traits.specs.Host.{AppendsOctets, TakesOctets};
+    ghost use Rattle.io_traits.specs.Host.{Writes, Reads};
     ghost use Rattle.io_traits.specs.Store.{store_left, store_got};
 
     pub(crate) fn empty(alloc: Global) -> Self
@@ -83,7 +83,7 @@ impl Store {
 
     pub(crate) fn read(&mut self, fails: bool, piece: &mut [u8]) -> Result<usize, Failed>
         requires { 0 < length piece.old }
-        ensures taken { TakesOctets result piece.new (Some (store_left self.old)) (Some (store_left self.new)) }
+        ensures taken { Reads result piece.new (Some (store_left self.old)) (Some (store_left self.new)) }
         ensures got { store_got self.new ≡ store_got self.old }
         ensures size { vec_len self.new.got ≡ vec_len self.old.got }
         ensures cause { HasCause self.old.faults self.new.faults result }
@@ -102,7 +102,7 @@ impl Store {
 
     pub(crate) fn write(&mut self, fails: bool, piece: &[u8]) -> Result<usize, Failed>
         requires { 0 < length piece.now }
-        ensures appended { AppendsOctets result piece.now (Some (store_got self.old)) (Some (store_got self.new)) }
+        ensures appended { Writes result piece.now (Some (store_got self.old)) (Some (store_got self.new)) }
         ensures left { store_left self.new ≡ store_left self.old }
         ensures size { vec_len self.new.got ≡ vec_len self.old.got }
         ensures cause { HasCause self.old.faults self.new.faults result }
