@@ -1,4 +1,5 @@
+mod Copying
 pub mod Faulting
-pub mod Frames
 pub mod Known
-mod Fronts
+pub mod Places
+pub mod Touching

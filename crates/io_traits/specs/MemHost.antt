@@ -3,6 +3,7 @@ use Rattle.std.specs.Prelude.{◌≡◌, ◌<◌, ℕ, ◌+◌, ◌-◌, ◌^◌
 use Rattle.std.specs.List.{list_any}
 use Rattle.std.specs.declared.alloc.Global.{Global}
 use Rattle.io_traits.specs.Host.{HostState}
+use Rattle.io_traits.specs.Touching.{is_in, same_place}
 use Rattle.io_traits.specs.Store.{store_left, store_got}
 use Rattle.io_traits.specs.declared.host.Place.{Place}
 use Rattle.io_traits.specs.declared.host.Place.TheVariants.{Settings, Input, Output, Prices, Screen}
@@ -65,20 +66,10 @@ pub record CountsCall (old new : MemHost) : Type 0 where
   pub fails : new.fails.items ≡ old.fails.items
   pub size : (p : Place) → size_of new p ≡ size_of old p
 
-abbrev pub number_of : Place → ℕ
-number_of Settings = 0
-number_of Input = 1
-number_of Output = 2
-number_of Prices = 3
-number_of Screen = 4
-
-abbrev pub same_place : Place → Place → Bool
-same_place p q = number_of p == number_of q
-
 -- no place stands twice
 abbrev pub names_once : List Place → Bool
 names_once [] = true
-names_once (p ∷ places) = not (list_any (same_place p) places) && names_once places
+names_once (p ∷ places) = not (is_in places p) && names_once places
 
 -- what a list holds for a place, and where it doesn't name the place, nothing
 abbrev pub value_for : {V W : Type 0} → (V → W) → W → List (Place × V) → Place → W

@@ -5,10 +5,12 @@
 mod file_host;
 mod host;
 mod mem_host;
+mod transfer;
 
 pub use file_host::FileHost;
 pub use host::{Failed, Host, Place, Way};
 pub use mem_host::MemHost;
+pub use transfer::{PLACE_LIMIT, ReadError, read_place, write_all};
 
 #[cfg(test)]
 mod tests;

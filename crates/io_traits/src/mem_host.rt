@@ -1,5 +1,5 @@
 // The places of the outside in memory.
-ghost use Rattle.std.specs.Prelude.{◌≡◌, ◌≢◌, ◌<◌, ◌≤◌, ◌-◌, ◌&&◌, ℕ, List, [], length, map, min, not, nat_lt, is_ok, Option, IsTrue, IfOk, option_map, string_bytes, vec_len};
+ghost use Rattle.std.specs.Prelude.{◌≡◌, ◌≢◌, ◌<◌, ◌≤◌, ◌-◌, ◌&&◌, ℕ, List, [], ◌∷◌, length, map, min, not, nat_lt, is_ok, Option, IsTrue, IfOk, option_map, string_bytes, vec_len};
 
 mod file;
 mod store;
@@ -24,7 +24,8 @@ pub struct MemHost {
 
 impl MemHost {
     ghost use Rattle.std.specs.Prelude.{Some, None, if◌then◌else◌};
-    ghost use Rattle.io_traits.specs.MemHost.{CountsCall, IsNew, bound_of, fails_next, got_of, left_of, names_once, same_place, size_of, state_of, store_of};
+    ghost use Rattle.io_traits.specs.MemHost.{CountsCall, IsNew, bound_of, fails_next, got_of, left_of, names_once, size_of, state_of, store_of};
+    ghost use Rattle.io_traits.specs.Touching.{same_place};
     ghost use Rattle.io_traits.specs.declared.host.Place.{Place};
 
     fn empty(alloc: Global, fails: Vec<u64>) -> Self
@@ -161,7 +162,8 @@ impl MemHost {
 
 impl Host for MemHost {
     ghost use Rattle.io_traits.specs.Faults.{HasCause};
-    ghost use Rattle.io_traits.specs.Host.{BindsOnly, IsBoundFor, Reads, ReadsOnly, Writes, WritesOnly};
+    ghost use Rattle.io_traits.specs.Host.{Writes, IsBoundFor, Reads};
+    ghost use Rattle.io_traits.specs.Touching.{Touches};
     ghost use Rattle.io_traits.specs.MemHostLaws.{unbound_is_empty as unbound_is_empty_law};
     ghost use Rattle.io_traits.specs.MemHost.{CountsCall, HasRoom, NeverFails, fails_next, got_of, left_of, size_of, state_of};
     ghost use Rattle.io_traits.specs.declared.host.Place.{Place};
@@ -177,7 +179,7 @@ impl Host for MemHost {
         requires unbound { (state_of self.old).bound place ≡ None }
         ensures bound { (state_of self.new).bound place ≡ Some (way, string_bytes name) }
         ensures cause { HasCause ((state_of self.old).faults place) ((state_of self.new).faults place) result }
-        ensures others { BindsOnly place (state_of self.old) (state_of self.new) }
+        ensures touches { Touches (place ∷ []) [] [] (state_of self.old) (state_of self.new) }
         ensures counted { CountsCall self.old self.new }
         ensures succeeds { is_ok result ≡ not (fails_next self.old) }
         ensures faultless { NeverFails self.old → (state_of self.new).faults place ≡ (state_of self.old).faults place }
@@ -197,7 +199,7 @@ impl Host for MemHost {
         requires bound { IsBoundFor Way.Read (state_of self.old) place }
         ensures taken { Reads result piece.new ((state_of self.old).left place) ((state_of self.new).left place) }
         ensures cause { HasCause ((state_of self.old).faults place) ((state_of self.new).faults place) result }
-        ensures others { ReadsOnly place (state_of self.old) (state_of self.new) }
+        ensures touches { Touches [] (place ∷ []) [] (state_of self.old) (state_of self.new) }
         ensures counted { CountsCall self.old self.new }
         ensures succeeds { is_ok result ≡ not (fails_next self.old) }
         ensures faultless { NeverFails self.old → (state_of self.new).faults place ≡ (state_of self.old).faults place }
@@ -218,7 +220,7 @@ impl Host for MemHost {
         requires bound { place ≢ Place.Screen → IsBoundFor Way.Write (state_of self.old) place }
         ensures appended { Writes result piece.now ((state_of self.old).got place) ((state_of self.new).got place) }
         ensures cause { HasCause ((state_of self.old).faults place) ((state_of self.new).faults place) result }
-        ensures others { WritesOnly place (state_of self.old) (state_of self.new) }
+        ensures touches { Touches [] [] (place ∷ []) (state_of self.old) (state_of self.new) }
         ensures counted { CountsCall self.old self.new }
         ensures succeeds { is_ok result ≡ (not (fails_next self.old) && nat_lt (length (got_of self.old place)) (size_of self.old place)) }
         ensures faultless { NeverFails self.old → HasRoom self.old place → (state_of self.new).faults place ≡ (state_of self.old).faults place }

@@ -23,7 +23,7 @@ pub(crate) struct Port<F: Drop> {
 impl<F: Drop + Read + Write> Port<F> {
     ghost use Rattle.std.specs.Prelude.{None, Some};
     ghost use Rattle.io_traits.specs.Faults.{HasCause, Rose};
-    ghost use Rattle.io_traits.specs.Host.{Reads, Writes};
+    ghost use Rattle.io_traits.specs.Host.{Writes, Reads};
     ghost use Rattle.io_traits.specs.FileHost.{bound_of};
 
     pub(crate) fn unbound() -> Self

@@ -17,7 +17,7 @@ pub(crate) struct File {
 impl File {
     ghost use Rattle.std.specs.Prelude.{Some, None};
     ghost use Rattle.io_traits.specs.Faults.{HasCause};
-    ghost use Rattle.io_traits.specs.Host.{Reads, Writes};
+    ghost use Rattle.io_traits.specs.Host.{Writes, Reads};
     ghost use Rattle.io_traits.specs.Store.{store_left, store_got};
     ghost use Rattle.io_traits.specs.MemHost.{file_bound};
 

@@ -20,7 +20,7 @@ pub(crate) struct Store {
 impl Store {
     ghost use Rattle.std.specs.Prelude.{Some};
     ghost use Rattle.io_traits.specs.Faults.{HasCause, Rose};
-    ghost use Rattle.io_traits.specs.Host.{Reads, Writes};
+    ghost use Rattle.io_traits.specs.Host.{Writes, Reads};
     ghost use Rattle.io_traits.specs.Store.{store_left, store_got};
 
     pub(crate) fn empty(alloc: Global) -> Self

@@ -1,6 +1,7 @@
 use Rattle.std.proofs.Common.{◌≡◌, ◌∙◌, ap, sym, [], ◌∷◌, if◌then◌else◌, Some}
 use Rattle.std.proofs.lemmas.List.Sums.{fold-append}
-use Rattle.io_traits.specs.MemHost.{got_of, left_of, octets_for, same_place, size_of}
+use Rattle.io_traits.specs.MemHost.{got_of, left_of, octets_for, size_of}
+use Rattle.io_traits.specs.Touching.{same_place}
 use Rattle.io_traits.proofs.mem_host.MemHost.new.Goals as goal
 
 pub loop-place-preserved : goal.loop-place-preserved

@@ -1,6 +1,6 @@
 use Rattle.std.proofs.Common.{rules, arith, ◌≡◌, ◌∙◌, ap, take, drop, length, ◌+◌, ◌-◌, []}
 use Rattle.std.proofs.lemmas.List.{drop_all, length-drop}
-use Rattle.io_traits.proofs.Fronts.{copied_front}
+use Rattle.io_traits.proofs.Copying.{copied_prefix}
 use Rattle.io_traits.proofs.mem_host.store.Store.read.Goals as goal
 
 pub returns-clause-taken : goal.returns-clause-taken
@@ -10,7 +10,7 @@ returns-clause-taken c =
     let left = c.args.self.now.left.items in
     record {
       within = search rules;
-      front = copied_front left c.copy_from_slice.new.self (drop n c.args.piece.now) c.args.piece.now at n
+      prefix = copied_prefix left c.copy_from_slice.new.self (drop n c.args.piece.now) c.args.piece.now at n
           (c.copy_from_slice.ensures.after ∙ ap (λ xs. take (at + n - at) (drop at xs)) c.deref.ensures.value)
           c.copy_from_slice.ensures.len
           (omega arith);

@@ -3,8 +3,8 @@ use Rattle.std.proofs.Common.{◌≡◌, ◌∙◌, ap, sym, ℕ, ◌+◌, ◌-�
 use Rattle.std.proofs.lemmas.List.{take-append-drop, drop-drop, take_at, length-take}
 
 -- what was copied, and then what is left, is what was left before
-pub copied_front : (xs copy rest piece : List ℕ) (at n : ℕ) → copy ≡ take (at + n - at) (drop at xs) → length copy ≡ length (take n piece) → n ≤ length piece → drop at xs ≡ take n (copy ++ rest) ++ drop (at + n) xs
-copied_front xs copy rest piece at n e l h =
+pub copied_prefix : (xs copy rest piece : List ℕ) (at n : ℕ) → copy ≡ take (at + n - at) (drop at xs) → length copy ≡ length (take n piece) → n ≤ length piece → drop at xs ≡ take n (copy ++ rest) ++ drop (at + n) xs
+copied_prefix xs copy rest piece at n e l h =
     let k : at + n - at ≡ n = omega arith in
     let long : length copy ≡ n = omega (arith, l, length-take n piece) in
     let same : copy ≡ take n (drop at xs) = rw k at e in
