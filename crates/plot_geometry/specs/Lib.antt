@@ -1,3 +1,5 @@
+pub mod BiasOrder
+pub mod Biases
 pub mod Bounds
 pub mod HalfAngles
 pub mod InPlane

@@ -1,6 +1,8 @@
 //! Polar measurements of a radar, put into the plane of all radars.
 #![tactic(auto)]
 
+mod biases;
+mod laws;
 mod plane;
 mod plots;
 mod radars;
@@ -8,6 +10,8 @@ mod radars;
 mod tests;
 mod turns;
 
+pub use biases::Bias;
+pub use laws::bias_order;
 pub use plane::to_plane;
 pub use plots::PlanePlot;
 pub use radars::RadarSettings;
