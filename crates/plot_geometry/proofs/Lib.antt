@@ -1,5 +1,10 @@
-pub mod Order
+pub mod Bounds
+pub mod HalfAngles
+pub mod InRange
+pub mod Lengths
+pub mod Norms
+pub mod Orders
 pub mod PlaneLaws
-pub mod PlotFields
 pub mod Table
 pub mod Terms
+pub mod TurnLaws

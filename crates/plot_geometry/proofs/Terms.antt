@@ -6,8 +6,8 @@ use Rattle.std.specs.Int.{w16, w64, w128, int_max, cast_signed, cast_unsigned}
 use lib.Signed.{non_neg}
 use Rattle.plot_geometry.specs.Plane.{not_below_zero}
 use Rattle.plot_geometry.specs.Turns.{norm}
-use Rattle.plot_geometry.specs.Lengths.{side}
-use Rattle.plot_geometry.specs.Bounds.{not_below_zero_le}
+use Rattle.plot_geometry.proofs.Lengths.{side}
+use Rattle.plot_geometry.proofs.Bounds.{not_below_zero_le}
 use Rattle.trk_base.proofs.Sizes.{Is, var, is_var, is_cast, is_cast64}
 
 -- what a call gave

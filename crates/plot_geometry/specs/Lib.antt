@@ -1,13 +1,8 @@
 pub mod BiasOrder
 pub mod Biases
-pub mod Bounds
-pub mod HalfAngles
 pub mod InPlane
-pub mod InRange
-pub mod Lengths
-pub mod Norms
 pub mod Plane
 pub mod PlanePlots
 pub mod PlotOrder
-pub mod TurnLaws
+pub mod Plots
 pub mod Turns

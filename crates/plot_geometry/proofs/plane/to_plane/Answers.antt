@@ -6,7 +6,6 @@ use Rattle.trk_base.proofs.Sizes.{var}
 use Rattle.plot_geometry.specs.Turns.{sine_cosine, scaled}
 use Rattle.plot_geometry.specs.Plane.{slant_range, azimuth, ground_range, cross_range_sigma, squared_sine, axis_variance}
 use Rattle.plot_geometry.specs.PlanePlots.{plane_plot}
-use Rattle.plot_geometry.proofs.PlotFields.{same_plot}
 use Rattle.plot_geometry.proofs.plane.to_plane.Goals as goal
 
 pub returns : goal.returns
@@ -46,4 +45,15 @@ returns c =
     let rest : 2 ^ 20 - (2 ^ 20 - c.squared_sine-share.result) ≡ c.squared_sine-share.result = omega (arith, c.squared_sine-share.ensures.bound) in
     let rx = c.axis_variance.ensures.value ∙ (λ i. axis_variance (64 * along i) (across i) (share i) (2 ^ 20 - share i)) in
     let ry = c.axis_variance-2.ensures.value ∙ (λ i. axis_variance (64 * along i) (across i) (2 ^ 20 - share i) ((rest ∙ share) i)) in
-    same_plot _ (plane_plot radar plot c.args.key) (λ i. (c.args.key, x i, y i, rx i, ry i, plot.kind, plot.spi, plot.code, plot.level, plot.address))
+    λ i. record {
+      key = c.args.key;
+      x = x i;
+      y = y i;
+      rx = rx i;
+      ry = ry i;
+      kind = plot.kind;
+      spi = plot.spi;
+      code = plot.code;
+      level = plot.level;
+      address = plot.address;
+    }

@@ -1,6 +1,6 @@
 use Rattle.std.proofs.Common.{sym, subst, ◌≤◌, ◌^◌, ℤ}
 use Rattle.std.specs.Prelude.{unsigned_abs}
-use Rattle.plot_geometry.specs.HalfAngles.{cosine_le, sine_le}
+use Rattle.plot_geometry.proofs.HalfAngles.{cosine_le, sine_le}
 use Rattle.plot_geometry.proofs.Table.{entry_is}
 use Rattle.plot_geometry.proofs.turns.half_angle.Goals as goal
 

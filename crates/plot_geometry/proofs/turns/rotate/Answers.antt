@@ -4,7 +4,7 @@ use Rattle.std.specs.Int.{w64, w128, cast_signed, cast_unsigned}
 use Rattle.std.proofs.lemmas.Int.{to_z-of_z}
 use Rattle.trk_base.proofs.Sizes.{var}
 use Rattle.plot_geometry.specs.Turns.{sine_cosine, scaled, rotated}
-use Rattle.plot_geometry.specs.TurnLaws.{rotated_north, rotated_east, rotated_south, rotated_west}
+use Rattle.plot_geometry.proofs.TurnLaws.{rotated_north, rotated_east, rotated_south, rotated_west}
 use Rattle.plot_geometry.proofs.turns.rotate.Goals as goal
 
 -- one coordinate, without the conversions to bits and back

@@ -1,7 +1,7 @@
 use Rattle.std.proofs.Common.{arith, lit<, ◌*◌, ◌≤◌, ◌^◌, subst, sym}
 use Rattle.std.specs.Prelude.{unsigned_abs}
 use Rattle.trk_base.proofs.Sizes.{var, times, rounded, is_cast64}
-use Rattle.plot_geometry.specs.Bounds.{scaled_twice}
+use Rattle.plot_geometry.proofs.Bounds.{scaled_twice}
 use Rattle.plot_geometry.proofs.Terms.{given64}
 use Rattle.plot_geometry.proofs.turns.scaled.Goals as goal
 

@@ -1,7 +1,7 @@
 use Rattle.std.proofs.Common.{◌≡◌, ◌∙◌, ap, sym, subst, arith, ◌+◌, ◌*◌, ◌^◌, ◌-◌, ◌≤◌, ℤ}
 use Rattle.std.specs.Int.{w128, cast_signed}
 use Rattle.plot_geometry.specs.Turns.{turns, norm}
-use Rattle.plot_geometry.specs.TurnLaws.{turns_on, turns_past, turns_done, turns_begin}
+use Rattle.plot_geometry.proofs.TurnLaws.{turns_on, turns_past, turns_done, turns_begin}
 use Rattle.plot_geometry.proofs.Terms.{norm_through}
 use Rattle.plot_geometry.proofs.turns.sine_cosine.Goals as goal
 

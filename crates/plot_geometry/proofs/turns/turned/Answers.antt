@@ -4,7 +4,7 @@ use Rattle.std.specs.Int.{w64, w128, cast_signed, cast_unsigned}
 use Rattle.trk_base.specs.Numbers.{round}
 use Rattle.trk_base.proofs.Sizes.{Is, var, wide, times, plus, minus, rounded, is_mul, is_add, is_sub, fits, below}
 use Rattle.plot_geometry.specs.Turns.{turned, norm}
-use Rattle.plot_geometry.specs.Lengths.{side, turn_norm}
+use Rattle.plot_geometry.proofs.Lengths.{side, turn_norm}
 use Rattle.plot_geometry.proofs.turns.turned.Goals as goal
 
 abbrev bits : ℤ → ℤ

@@ -4,8 +4,8 @@ use Rattle.std.specs.Prelude.{unsigned_abs}
 use Rattle.std.proofs.lemmas.Bool.{cases_eq, ne_eqb}
 use Rattle.plot_geometry.specs.Turns.{right_angle_halved, half_angle, turned, norm}
 use Rattle.trk_base.proofs.Roots.{square_le}
-use Rattle.plot_geometry.specs.HalfAngles.{unit_angle}
-use Rattle.plot_geometry.specs.Norms.{round_near, turned_norm, turned_sums, half_sums}
+use Rattle.plot_geometry.proofs.HalfAngles.{unit_angle}
+use Rattle.plot_geometry.proofs.Norms.{round_near, turned_norm, turned_sums, half_sums}
 
 pos_turn : (s c : ℤ) (p q : ℕ) → norm s c ≤ 2 ^ 81 → p * p + q * q ≤ 2 ^ 80 + 2 ^ 42 → norm (turned (pos p, pos q) (s, c)).0 (turned (pos p, pos q) (s, c)).1 ≤ norm s c + 2 ^ 44
 pos_turn s c p q small unit =

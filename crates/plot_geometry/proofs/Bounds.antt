@@ -8,8 +8,8 @@ use Rattle.trk_base.proofs.Roots.{isqrt_root, root_le}
 use Rattle.trk_base.proofs.Sizes.{round_share}
 use Rattle.plot_geometry.specs.Turns.{turns, turned, half_angle, sine_cosine, scaled, norm}
 use Rattle.plot_geometry.specs.Plane.{not_below_zero, unbiased, slant_range, ground_range, height_above, cross_range_sigma, squared_sine, axis_variance}
-use Rattle.plot_geometry.specs.TurnLaws.{step, turns_done, turns_begin}
-use Rattle.plot_geometry.specs.Lengths.{turn_norm, side}
+use Rattle.plot_geometry.proofs.TurnLaws.{step, turns_done, turns_begin}
+use Rattle.plot_geometry.proofs.Lengths.{turn_norm, side}
 
 -- each turn adds 2 ^ 44 at most to the square of the length
 turns_norm : (k angle : ℕ) (sc : ℤ × ℤ) → k ≤ 16 → norm sc.0 sc.1 ≤ 2 ^ 80 + (16 - k) * 2 ^ 44 → norm (turns k angle sc).0 (turns k angle sc).1 ≤ 2 ^ 80 + 16 * 2 ^ 44

@@ -7,7 +7,7 @@ use Rattle.plot_geometry.specs.declared.radars.RadarSettings.{RadarSettings}
 use Rattle.plot_geometry.specs.Turns.{sine_cosine, scaled}
 use Rattle.plot_geometry.specs.Plane.{slant_range, axis_variance}
 use Rattle.plot_geometry.specs.InPlane.{azimuth_of, range_of, along_of, across_of, share_of, x_of, y_of, rx_of, ry_of}
-use Rattle.plot_geometry.specs.Bounds.{sine_small, slant_range_le, ground_range_le, cross_range_sigma_le, squared_sine_le, axis_variance_le, axis_variance_least, scaled_twice}
+use Rattle.plot_geometry.proofs.Bounds.{sine_small, slant_range_le, ground_range_le, cross_range_sigma_le, squared_sine_le, axis_variance_le, axis_variance_least, scaled_twice}
 
 range_le : (radar : RadarSettings) (plot : RawPlot) → range_of radar plot ≤ 2 ^ 26
 range_le radar plot =
