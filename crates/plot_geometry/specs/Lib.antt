@@ -4,5 +4,6 @@ pub mod InPlane
 pub mod Plane
 pub mod PlanePlots
 pub mod PlotOrder
+pub mod PlotTies
 pub mod Plots
 pub mod Turns

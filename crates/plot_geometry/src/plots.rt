@@ -44,6 +44,7 @@ impl Ord for PlanePlot {
     ghost use Rattle.std.proofs.Common.{rules};
     ghost use Rattle.std.specs.Cmp.Rules.{comparing};
     ghost use Rattle.plot_geometry.specs.PlotOrder.{plot_cmp, plot_cmp_total};
+    ghost use Rattle.plot_geometry.specs.PlotTies.{plot_ties};
 
     ghost cmp = { plot_cmp };
 
@@ -51,7 +52,7 @@ impl Ord for PlanePlot {
 
     ghost matches_partial_cmp = { Prim.search (comparing, rules) };
 
-    ghost matches_eq = { Prim.search (comparing, rules) };
+    ghost matches_eq = { plot_ties };
 
     fn cmp(&self, other: &PlanePlot) -> Ordering {
         self.key
@@ -74,10 +75,11 @@ impl PartialOrd for PlanePlot {
     ghost use Rattle.std.specs.Cmp.Rules.{comparing};
     ghost use Rattle.std.specs.Ordering.{as_partial_cmp};
     ghost use Rattle.plot_geometry.specs.PlotOrder.{plot_cmp, plot_cmp_total};
+    ghost use Rattle.plot_geometry.specs.PlotTies.{plot_ties};
 
     ghost partial_cmp = { as_partial_cmp plot_cmp };
 
-    ghost laws = { partial_order_from_own_ties (partial_order_from_total plot_cmp_total) (Prim.search (comparing, rules)) };
+    ghost laws = { partial_order_from_own_ties (partial_order_from_total plot_cmp_total) plot_ties };
 
     fn partial_cmp(&self, other: &PlanePlot) -> Option<Ordering> {
         Some(self.cmp(other))

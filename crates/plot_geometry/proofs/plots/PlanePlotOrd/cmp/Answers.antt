@@ -1,4 +1,4 @@
-use Rattle.std.proofs.Common.{◌≡◌, ◌∙◌, ap, [], ◌∷◌}
+use Rattle.std.proofs.Common.{◌∙◌, ap, [], ◌∷◌}
 use Rattle.std.specs.Ordering.{ordering_then}
 use Rattle.plot_geometry.specs.PlotOrder.{plot_cmp}
 use Rattle.plot_geometry.proofs.Orders.{lefts_rights}
