@@ -10,7 +10,7 @@ use Rattle.std.specs.List.Sorted.{IsStrictlySortedBy}
 use Rattle.std.proofs.lemmas.Option.{none-some, same_Some}
 use Rattle.trk_base.specs.Keys.{key_cmp}
 use Rattle.trk_base.specs.KeyOrder.{key_cmp_total, key_cmp_exact}
-use Rattle.plot_geometry.specs.declared.plots.PlanePlot.{PlanePlot}
+use Rattle.plot_geometry.specs.Plots.{PlanePlot}
 use Rattle.plot_geometry.specs.declared.radars.RadarSettings.{RadarSettings}
 use Rattle.plot_geometry.specs.PlotOrder.{plot_cmp}
 use Rattle.plot_geometry.specs.PlanePlots.{plane_plot}

@@ -10,9 +10,9 @@ use Rattle.std.specs.List.Sorted.{IsSorted, IsPermutation}
 use Rattle.std.proofs.lemmas.List.Sorted.{IsPermutation-refl, IsPermutation-cons, IsPermutation-trans, IsPermutation-sym, IsPermutation-middle, sum_by-IsPermutation, ranks_by, sorted_far}
 use Rattle.std.proofs.lemmas.List.Elements.{recursion_from_All}
 use Rattle.std.proofs.lemmas.List.Sums.{sum_by-append}
-use Rattle.plot_geometry.specs.declared.plots.PlanePlot.{PlanePlot}
+use Rattle.plot_geometry.specs.Plots.{PlanePlot}
 use Rattle.plot_geometry.specs.PlotOrder.{plot_cmp}
-use Rattle.plot_geometry.proofs.Order.{plot_cmp_total, plot_cmp_exact}
+use Rattle.plot_geometry.specs.PlotOrder.{plot_cmp_total, plot_cmp_exact}
 use Rattle.admission_log.specs.Plots.{put, in_rising_key}
 
 -- none behind is below x

@@ -4,7 +4,7 @@ use Rattle.std.specs.Option.{option_map}
 use Rattle.std.specs.Ordering.{is_lt}
 use Rattle.trk_base.specs.Numbers.{slot_of}
 use Rattle.trk_base.specs.declared.keys.Key.{Key}
-use Rattle.plot_geometry.specs.declared.plots.PlanePlot.{PlanePlot}
+use Rattle.plot_geometry.specs.Plots.{PlanePlot}
 use Rattle.plot_geometry.specs.PlotOrder.{plot_cmp}
 use Rattle.plot_geometry.specs.PlanePlots.{plane_plot}
 use Rattle.admission_log.specs.declared.settings.Settings.{Settings}

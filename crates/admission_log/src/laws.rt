@@ -3,7 +3,7 @@ ghost use Rattle.std.specs.Prelude.{◌≡◌, ◌<◌, ◌≤◌, ◌^◌, ℕ,
 ghost use Rattle.std.specs.List.{range_with_len};
 ghost use Rattle.std.specs.List.Sorted.{IsPermutation, IsSorted, IsStrictlySortedBy};
 ghost use Rattle.trk_base.specs.Keys.{key_cmp};
-ghost use Rattle.plot_geometry.specs.declared.plots.PlanePlot.{PlanePlot};
+ghost use Rattle.plot_geometry.specs.Plots.{PlanePlot};
 ghost use Rattle.plot_geometry.specs.PlotOrder.{plot_cmp};
 ghost use Rattle.admission_log.specs.declared.settings.Settings.{Settings};
 ghost use Rattle.admission_log.specs.Histories.{History, first, last_of, admitted_of, next_of, high_at};

@@ -5,7 +5,7 @@ use Rattle.std.proofs.lemmas.Bool.{cond-true, cond-false, and_left, and_right, a
 use Rattle.std.proofs.lemmas.Nat.{mul-le}
 use Rattle.trk_base.specs.Numbers.{round}
 use Rattle.trk_base.proofs.Sizes.{round_within}
-use Rattle.plot_geometry.specs.declared.plots.PlanePlot.{PlanePlot}
+use Rattle.plot_geometry.specs.Plots.{PlanePlot}
 use Rattle.fixed_imm.specs.Aims.{AimState}
 use Rattle.gating.specs.Gating.{axis_cost, cost_of, is_another, time_step, innovation, innovation_variance, gate}
 

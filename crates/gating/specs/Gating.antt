@@ -3,7 +3,7 @@
 use Rattle.std.specs.Prelude.{ℕ, ◌+◌, ◌*◌, ◌==◌, nat_le, Bool, false, not, ◌&&◌, ◌||◌, if◌then◌else◌, Option, Some, None, ℤ, pos, ◌-ℤ◌, unsigned_abs}
 use Rattle.std.specs.Option.{is_some}
 use Rattle.trk_base.specs.Numbers.{round}
-use Rattle.plot_geometry.specs.declared.plots.PlanePlot.{PlanePlot}
+use Rattle.plot_geometry.specs.Plots.{PlanePlot}
 use Rattle.fixed_imm.specs.Values.{AxisState}
 use Rattle.fixed_imm.specs.Aims.{AimState}
 use Rattle.fixed_imm.specs.Filter.{combined}

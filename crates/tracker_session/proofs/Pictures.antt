@@ -3,7 +3,7 @@ use Rattle.std.proofs.Common.{◌≡◌, ◌∙◌, ap, sym, refl, ℕ, ◌+◌,
 use Rattle.std.specs.Prelude.{map, filter}
 use Rattle.std.proofs.lemmas.List.{map-append, take_more}
 use Rattle.std.proofs.lemmas.List.Elements.{filter-append}
-use Rattle.plot_geometry.specs.declared.plots.PlanePlot.{PlanePlot}
+use Rattle.plot_geometry.specs.Plots.{PlanePlot}
 use Rattle.admission_log.specs.declared.settings.Settings.{Settings}
 use Rattle.tracker_session.specs.Picture.{is_shown, track_record, track_records}
 

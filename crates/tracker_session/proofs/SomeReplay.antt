@@ -5,7 +5,7 @@ use Rattle.std.specs.List.{flat_map, concat, AllByRecursion, AllZip}
 use Rattle.std.proofs.lemmas.Bool.{cases_lt}
 use Rattle.std.proofs.lemmas.List.{get_or_append_left, get_or_past, take-append-drop}
 use Rattle.std.proofs.lemmas.List.Elements.{All-from_get_or}
-use Rattle.plot_geometry.specs.declared.plots.PlanePlot.{PlanePlot}
+use Rattle.plot_geometry.specs.Plots.{PlanePlot}
 use Rattle.asterix_frame.specs.Blocks.{DataBlock, spelling}
 use Rattle.asterix_frame.specs.Blocks as frame
 use Rattle.asterix_frame.proofs.Datagrams.{some_reading}

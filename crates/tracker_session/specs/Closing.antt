@@ -1,6 +1,6 @@
 -- A plot whose slot is over.
 use Rattle.std.specs.Prelude.{ℕ, Option, None, if◌then◌else◌}
-use Rattle.plot_geometry.specs.declared.plots.PlanePlot.{PlanePlot}
+use Rattle.plot_geometry.specs.Plots.{PlanePlot}
 use Rattle.admission_log.specs.declared.settings.Settings.{Settings}
 use Rattle.admission_log.specs.declared.events.Admitted.{Admitted}
 use Rattle.admission_log.specs.Plots.{plane_of, is_closed}

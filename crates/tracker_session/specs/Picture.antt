@@ -3,7 +3,7 @@ use Rattle.std.specs.Prelude.{◌≡◌, ◌%◌, ℕ, ◌+◌, nat_lt, Bool, �
 use Rattle.std.specs.List.{flat_map, concat}
 use Rattle.std.specs.Int.{w32, cast_unsigned}
 use Rattle.trk_base.specs.Numbers.{day, round}
-use Rattle.plot_geometry.specs.declared.plots.PlanePlot.{PlanePlot}
+use Rattle.plot_geometry.specs.Plots.{PlanePlot}
 use Rattle.asterix_frame.specs.Blocks as frame
 use Rattle.asterix_frame.specs.Groups.{AreFilled, ungrouped}
 use Rattle.recording.specs.Items.{big_endian}

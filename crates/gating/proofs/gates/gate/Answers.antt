@@ -20,14 +20,15 @@ pub returns : goal.returns
 returns c =
     let plot = c.args.plot.now in
     let d = step_as_is c.time_step-d.result (subst IsTimeStep (sym c.time_step-d.ensures) c.requires) in
-    let x = as_is plot.x (omega (arith, plot.x_range)) in
-    let y = as_is plot.y (omega (arith, plot.y_range)) in
+    let seen = c.plot.view_is in
+    let x = as_is c.plot.inside.x (omega (arith, c.plot.invariant.x)) ∙ (λ j. (seen j).x) in
+    let y = as_is c.plot.inside.y (omega (arith, c.plot.invariant.y)) ∙ (λ j. (seen j).y) in
     let ex = c.innovation-ex.ensures in
     let ey = c.innovation-ey.ensures in
     let view = c.aim.view_is in
     of_this c.args.aim.now plot c.time_step-d.result _ _ c.innovation-ex.result.1 c.innovation-ey.result.1 c.cost_of.result (sym c.if-is_another.ensures) c.time_step-d.ensures
     (as_is c.innovation-ex.result.0 ex.near ∙ ex.innovation ∙ (λ j. innovation (view j).x (d j) (x j)))
-    (ex.variance ∙ (λ j. innovation_variance (view j).x (d j) plot.rx))
+    (ex.variance ∙ (λ j. innovation_variance (view j).x (d j) (seen j).rx))
     (as_is c.innovation-ey.result.0 ey.near ∙ ey.innovation ∙ (λ j. innovation (view j).y (d j) (y j)))
-    (ey.variance ∙ (λ j. innovation_variance (view j).y (d j) plot.ry))
+    (ey.variance ∙ (λ j. innovation_variance (view j).y (d j) (seen j).ry))
     c.cost_of.ensures
