@@ -14,18 +14,18 @@ range_le radar plot =
     let slant = slant_range_le (min plot.rho 65535) radar.range_bias radar.range_gain (omega arith) radar.range_bias_range radar.range_gain_range in
     omega (arith, slant, ground_range_le (slant_range (min plot.rho 65535) radar.range_bias radar.range_gain) plot.level radar.height slant)
 
--- a place of at most 1,000 km, and twice a range
-placed : (place way : ℤ) (range : ℕ) → unsigned_abs place ≤ 1000000 → range ≤ 2 ^ 26 → unsigned_abs way ≤ 2 * range → unsigned_abs (pos 64 *ℤ place +ℤ way) ≤ 256000000
-placed place way range h k l = omega (arith, ints)
+-- a radar at most 1,000 km from the origin, and twice a range
+coordinate_in_plane : (radar way : ℤ) (range : ℕ) → unsigned_abs radar ≤ 1000000 → range ≤ 2 ^ 26 → unsigned_abs way ≤ 2 * range → unsigned_abs (pos 64 *ℤ radar +ℤ way) ≤ 256000000
+coordinate_in_plane radar way range h k l = omega (arith, ints)
 
 pub x_in_plane : (radar : RadarSettings) (plot : RawPlot) → unsigned_abs (x_of radar plot) ≤ 256000000
 x_in_plane radar plot =
-    placed radar.x (scaled (pos (range_of radar plot)) (sine_cosine (azimuth_of radar plot)).0) (range_of radar plot) radar.x_range (range_le radar plot)
+    coordinate_in_plane radar.x (scaled (pos (range_of radar plot)) (sine_cosine (azimuth_of radar plot)).0) (range_of radar plot) radar.x_range (range_le radar plot)
     (scaled_twice (pos (range_of radar plot)) (sine_cosine (azimuth_of radar plot)).0 (sine_small (azimuth_of radar plot)).0)
 
 pub y_in_plane : (radar : RadarSettings) (plot : RawPlot) → unsigned_abs (y_of radar plot) ≤ 256000000
 y_in_plane radar plot =
-    placed radar.y (scaled (pos (range_of radar plot)) (sine_cosine (azimuth_of radar plot)).1) (range_of radar plot) radar.y_range (range_le radar plot)
+    coordinate_in_plane radar.y (scaled (pos (range_of radar plot)) (sine_cosine (azimuth_of radar plot)).1) (range_of radar plot) radar.y_range (range_le radar plot)
     (scaled_twice (pos (range_of radar plot)) (sine_cosine (azimuth_of radar plot)).1 (sine_small (azimuth_of radar plot)).1)
 
 variance_in_range : (radar : RadarSettings) (plot : RawPlot) (cosine sine : ℕ) → cosine ≤ 2 ^ 20 → sine ≤ 2 ^ 20

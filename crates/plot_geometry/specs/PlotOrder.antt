@@ -1,29 +1,26 @@
 -- The order of plots in the plane: by key, then by the other fields as they stand. It is total, and plots that compare as equal are one.
-use Rattle.std.proofs.Common.{◌≡◌, ap, refl, ℕ, ℤ, Bool, true, false, Option, Some, None}
+use Rattle.std.proofs.Common.{◌≡◌, ◌≢◌, ap, refl, ℕ, ℤ, Bool, Option}
 use Rattle.std.specs.Cmp.{IsTotalOrder, bool_cmp_total}
-use Rattle.std.specs.Cmp.Rules.{comparing}
 use Rattle.std.specs.Ordering.{nat_cmp, int_cmp, bool_cmp, ordering_then}
 use Rattle.std.specs.Option.{option_cmp}
 use Rattle.std.specs.declared.cmp.Ordering.{Ordering}
-use Rattle.std.specs.declared.cmp.Ordering.TheVariants.{Equal}
+use Rattle.std.specs.declared.cmp.Ordering.TheVariants.{Less, Equal, Greater}
 use Rattle.std.proofs.lemmas.Cmp.{on_total, then_total, nat_cmp_total, int_cmp_total}
 use Rattle.std.proofs.lemmas.Map.Lookups.{CmpEqualImpliesEq, exact_unsigned, exact_signed, exact_pairs}
 use Rattle.trk_base.specs.declared.keys.Key.{Key}
 use Rattle.trk_base.specs.Keys.{key_cmp}
 use Rattle.trk_base.specs.KeyOrder.{key_cmp_total, key_cmp_exact}
+use Rattle.trk_base.proofs.RawPlotOrder.{options_total, exact_bool, exact_option}
 use Rattle.plot_geometry.specs.Plots.{PlanePlot}
 
 -- by what the radar reports of the aircraft
 abbrev pub report_cmp : PlanePlot → PlanePlot → Ordering
 report_cmp a b = ordering_then (nat_cmp a.kind b.kind) (ordering_then (bool_cmp a.spi b.spi) (ordering_then (option_cmp nat_cmp a.code b.code) (ordering_then (option_cmp int_cmp a.level b.level) (option_cmp nat_cmp a.address b.address))))
 
--- by key, then by place, then by variance, then by the report
+-- by key, then by position, then by variance, then by the report
 abbrev pub plot_cmp : PlanePlot → PlanePlot → Ordering
 plot_cmp a b =
     ordering_then (key_cmp a.key b.key) (ordering_then (int_cmp a.x b.x) (ordering_then (int_cmp a.y b.y) (ordering_then (nat_cmp a.rx b.rx) (ordering_then (nat_cmp a.ry b.ry) (report_cmp a b)))))
-
-options_total : {K : Type 0} {R : K → K → Ordering} → IsTotalOrder R → IsTotalOrder (option_cmp R)
-options_total o = search comparing
 
 report_cmp_total : IsTotalOrder report_cmp
 report_cmp_total =
@@ -38,18 +35,6 @@ plot_cmp_total =
     (then_total (on_total (λ (p : PlanePlot). p.x) int_cmp_total)
     (then_total (on_total (λ (p : PlanePlot). p.y) int_cmp_total)
     (then_total (on_total (λ (p : PlanePlot). p.rx) nat_cmp_total) (then_total (on_total (λ (p : PlanePlot). p.ry) nat_cmp_total) report_cmp_total))))
-
-exact_bool : CmpEqualImpliesEq bool_cmp
-exact_bool true true h = refl
-exact_bool true false h = cc
-exact_bool false true h = cc
-exact_bool false false h = refl
-
-exact_option : {K : Type 0} (R : K → K → Ordering) → CmpEqualImpliesEq R → (a b : Option K) → option_cmp R a b ≡ Equal → a ≡ b
-exact_option R g None None h = refl
-exact_option R g None (Some y) h = cc
-exact_option R g (Some x) None h = cc
-exact_option R g (Some x) (Some y) h = ap (λ z. Some z) (g x y h)
 
 abbrev Report : Type 0
 Report = ℕ × (Bool × (Option ℕ × (Option ℤ × Option ℕ)))
@@ -89,3 +74,12 @@ parts_exact a b h =
 
 pub plot_cmp_exact : CmpEqualImpliesEq plot_cmp
 plot_cmp_exact a b h = ap of_parts (parts_exact a b h)
+
+then_first : (a b : Ordering) → a ≢ Equal → ordering_then a b ≡ a
+then_first Less b h = refl
+then_first Equal b h = absurd (h refl)
+then_first Greater b h = refl
+
+-- plots with other keys compare as these do
+pub key_first : (a b : PlanePlot) → key_cmp a.key b.key ≢ Equal → plot_cmp a b ≡ key_cmp a.key b.key
+key_first a b h = then_first (key_cmp a.key b.key) _ h

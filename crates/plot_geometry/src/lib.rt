@@ -11,7 +11,7 @@ mod tests;
 mod turns;
 
 pub use biases::Bias;
-pub use laws::bias_order;
+pub use laws::{bias_order, plot_order};
 pub use plane::to_plane;
 pub use plots::PlanePlot;
 pub use radars::RadarSettings;

@@ -1,4 +1,6 @@
+// A plot's position in the plane, and its variances.
 ghost use Rattle.std.specs.Prelude.{◌≡◌, ◌<◌, ◌≤◌, ◌^◌, ◌+◌, ◌-◌, ◌*◌, ℤ, pos, ◌+ℤ◌, ◌*ℤ◌, unsigned_abs};
+ghost use Rattle.trk_base.specs.Limits.{plane_bound};
 ghost use Rattle.plot_geometry.specs.Plane.{slant_range, azimuth, height_above, ground_range, cross_range_sigma, squared_sine, axis_variance};
 ghost use Rattle.plot_geometry.specs.PlanePlots.{plane_plot};
 
@@ -87,18 +89,18 @@ fn axis_variance(along: u64, across: u64, cosine: u64) -> u64
     (round_div(along + across, i128::from(WHOLE)) as u64).max(1)
 }
 
-// A place in 1/64 m, of one in m and what lies on from there in 1/64 m.
-fn coordinate(place: i32, onward: i64) -> i64
-    requires place { unsigned_abs place ≤ 1000000 }
+// A coordinate in 1/64 m, of a radar's in m and what a plot lies on from there in 1/64 m.
+fn coordinate(radar: i32, onward: i64) -> i64
+    requires radar { unsigned_abs radar ≤ 1000000 }
     requires onward { unsigned_abs onward ≤ 2 ^ 27 }
-    ensures value { result ≡ pos 64 *ℤ place +ℤ onward }
-    ensures bound { unsigned_abs result ≤ 256000000 }
+    ensures value { result ≡ pos 64 *ℤ radar +ℤ onward }
+    ensures bound { unsigned_abs result ≤ plane_bound }
 {
-    64 * i64::from(place) + onward
+    64 * i64::from(radar) + onward
 }
 
-/// A raw plot of a radar, put into the plane: its place, freed of the radar's biases, and the
-/// variances of that place on the plane's axes. All else stays as the plot has it.
+/// A raw plot of a radar, put into the plane: its position, freed of the radar's biases, and the
+/// variances of that position on the plane's axes. All else stays as the plot has it.
 pub fn to_plane(radar: &RadarSettings, plot: &RawPlot, key: Key) -> PlanePlot
     ensures { result ≡ plane_plot radar.now plot.now key }
 {

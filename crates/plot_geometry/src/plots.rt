@@ -6,11 +6,11 @@ use trk_base::Key;
 /// A plot in the plane. Plots are compared by key, then by the other fields in their order.
 #[derive(Clone, Copy, Debug, PartialEq, Eq)]
 pub struct PlanePlot {
-    /// Where it stands in the order of all plots.
+    /// Its key in the order of all plots.
     pub key: Key,
-    /// The position to the east, in 1/64 m, at most 256,000,000 in size.
+    /// The position to the east, in 1/64 m, at most `PLANE_BOUND` in size.
     pub x: i64,
-    /// The position to the north, in 1/64 m, at most 256,000,000 in size.
+    /// The position to the north, in 1/64 m, at most `PLANE_BOUND` in size.
     pub y: i64,
     /// The variance of `x` in (1/64 m)^2, from 1 to 2^46.
     pub rx: u64,

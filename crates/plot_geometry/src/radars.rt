@@ -1,3 +1,4 @@
+// A radar as the settings have it.
 ghost use Rattle.std.specs.Prelude.{◌≤◌, unsigned_abs, pos, neg_ℤ, ◌≤ℤ◌};
 
 /// What the settings say of one radar: who it is, where it stands, how it errs and how widely.
@@ -7,9 +8,9 @@ pub struct RadarSettings {
     pub sac: u8,
     /// System identification code.
     pub sic: u8,
-    /// The place to the east, in m, at most 1,000,000 in size.
+    /// The position to the east, in m, at most 1,000,000 in size.
     pub x: i32,
-    /// The place to the north, in m, at most 1,000,000 in size.
+    /// The position to the north, in m, at most 1,000,000 in size.
     pub y: i32,
     /// The height in m, from -500 to 9,000.
     pub height: i16,

@@ -143,6 +143,26 @@ fn places_the_farthest_plot(rt: HostRuntime) {
 }
 
 #[test]
+fn frees_a_plot_of_other_biases(rt: HostRuntime) {
+    let bias = Bias {
+        gain: 1_000,
+        range: 2,
+        azimuth: 0,
+    };
+    assert_eq!(rt; radar().biased(bias).bias(), bias);
+    let placed = to_plane(&radar().biased(bias), &plot(), key());
+    assert_eq!(rt; (placed.x, placed.y), (0, 115_521));
+    let own = radar().biased(bias).biased(radar().bias());
+    assert_eq!(rt; own, radar());
+    let less = Bias {
+        gain: 1_000,
+        range: 1,
+        azimuth: 1_000,
+    };
+    assert!(rt; less < bias);
+}
+
+#[test]
 fn orders_plots_by_key_first(rt: HostRuntime) {
     let near = to_plane(&radar(), &plot(), key());
     let mut later = key();

@@ -1,3 +1,4 @@
+// Sine and cosine of an angle in 360/65,536 degrees, and a turn by it.
 ghost use Rattle.std.specs.Prelude.{◌≡◌, ◌<◌, ◌≤◌, ◌^◌, ◌+◌, ◌*◌, ℤ, pos, neg_ℤ, unsigned_abs};
 ghost use Rattle.plot_geometry.specs.Turns.{half_angle, turned, sine_cosine, scaled, rotated, norm};
 
