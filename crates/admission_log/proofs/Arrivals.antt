@@ -5,11 +5,11 @@ use Rattle.std.proofs.lemmas.List.{map-append}
 use Rattle.admission_log.specs.declared.settings.Settings.{Settings}
 use Rattle.admission_log.specs.declared.events.Admitted.{Admitted}
 use Rattle.admission_log.specs.declared.events.Event.{Event}
-use Rattle.admission_log.specs.declared.events.Event.TheVariants.{Deliver, Tick, Publish}
+use Rattle.admission_log.specs.declared.events.Event.TheVariants.{Deliver, Tick, Publish, Bias}
 use Rattle.admission_log.specs.Histories.{History, appended, admitted_in, admitted_of, next_of}
 use Rattle.admission_log.specs.Legality.{IsLegal, IsLegalEvent}
 use Rattle.admission_log.proofs.Growing.{admitted-appended, next-grown}
-use Rattle.admission_log.proofs.Fronts.{by_events}
+use Rattle.admission_log.proofs.Prefixes.{by_events}
 
 range_join : (a n m : ℕ) → range_with_len a n ++ range_with_len (a + n) m ≡ range_with_len a (n + m)
 range_join a zero m =
@@ -26,6 +26,7 @@ of_event : (settings : Settings) (before : History) (e : Event) → IsLegalEvent
 of_event settings before (Deliver feed admitted told other) h = h.own_arrivals ∙ h.arrivals
 of_event settings before (Tick time) h = refl
 of_event settings before (Publish number cut) h = refl
+of_event settings before (Bias radar slot bias) h = refl
 
 -- the arrivals are the numbers from 0 on
 abbrev Counts : History → Type 0

@@ -9,24 +9,9 @@ use Rattle.admission_log.specs.declared.events.Outcome.{Outcome}
 use Rattle.admission_log.specs.declared.delivery.Delivery.{Delivery}
 use Rattle.admission_log.specs.Messages.{Message}
 use Rattle.admission_log.specs.Outcomes.{outcome_of}
-use Rattle.admission_log.specs.Deliveries.{judged_message, admitted_by, next_after, judged_all}
+use Rattle.admission_log.specs.Deliveries.{judged_message, admitted_by, AreJudged}
+use Rattle.admission_log.proofs.Judgements.{are_judged, judged_one, judged_more}
 use Rattle.admission_log.specs.Brought.{Brings, BringsMessages}
-
--- the arrival behind what was judged
-next_counts : (next : ℕ) (j : Result Admitted Outcome) → next_after next j ≡ next + length (filter_map admitted_by (j ∷ []))
-next_counts next (Ok a) = refl
-next_counts next (Err o) = omega arith
-
--- those of a front, and then those of the rest
-pub judged_all-append : (settings : Settings) (last next : ℕ) (ms ns : List Message)
-    → judged_all settings last next (ms ++ ns) ≡ judged_all settings last next ms ++ judged_all settings last (next + length (filter_map admitted_by (judged_all settings last next ms))) ns
-judged_all-append settings last next [] ns = ap (λ n. judged_all settings last n ns) (omega arith)
-judged_all-append settings last next (m ∷ ms) ns =
-    let j = judged_message settings last next m in
-    let js = judged_all settings last (next_after next j) ms in
-    let counted : next_after next j + length (filter_map admitted_by js) ≡ next + length (filter_map admitted_by (j ∷ js)) =
-    omega (arith, next_counts next j, ap length (filter_map-append admitted_by (j ∷ []) js), length-append (filter_map admitted_by (j ∷ [])) (filter_map admitted_by js)) in
-    ap (λ t. j ∷ t) (judged_all-append settings last (next_after next j) ms ns ∙ ap (λ n. js ++ judged_all settings last n ns) counted)
 
 -- nothing was judged
 pub brings_none : (d : Delivery) → Brings [] d d
@@ -43,11 +28,15 @@ brings_more js ks old mid new first then = record {
 
 -- the same of messages
 pub messages_none : (settings : Settings) (last : ℕ) (d : Delivery) → BringsMessages settings last [] d d
-messages_none settings last d = (brings_none d, refl)
+messages_none settings last d = record { judgements = []; are_judged = are_judged settings last d.next []; brings = brings_none d; other = refl }
+
+pub messages_one : (settings : Settings) (last : ℕ) (m : Message) (j : Result Admitted Outcome) (old new : Delivery) → j ≡ judged_message settings last old.next m → Brings (j ∷ []) old new → new.other ≡ old.other → BringsMessages settings last (m ∷ []) old new
+messages_one settings last m j old new same brings other = record { judgements = j ∷ []; are_judged = judged_one settings last old.next m j same; brings = brings; other = other }
 
 pub messages_more : (settings : Settings) (last : ℕ) (ms ns : List Message) (old mid new : Delivery) → BringsMessages settings last ms old mid → BringsMessages settings last ns mid new → BringsMessages settings last (ms ++ ns) old new
-messages_more settings last ms ns old mid new first then =
-    let js = judged_all settings last old.next ms in
-    let more : judged_all settings last mid.next ns ≡ judged_all settings last (old.next + length (filter_map admitted_by js)) ns = ap (λ n. judged_all settings last n ns) first.0.next in
-    let same : js ++ judged_all settings last mid.next ns ≡ judged_all settings last old.next (ms ++ ns) = ap (λ t. js ++ t) more ∙ sym (judged_all-append settings last old.next ms ns) in
-    (subst (λ t. Brings t old new) same (brings_more js (judged_all settings last mid.next ns) old mid new first.0 then.0), then.1 ∙ first.1)
+messages_more settings last ms ns old mid new first then = record {
+  judgements = first.judgements ++ then.judgements;
+  are_judged = judged_more settings last old.next ms ns first.judgements then.judgements first.are_judged (subst (λ n. AreJudged settings last n ns then.judgements) first.brings.next then.are_judged);
+  brings = brings_more first.judgements then.judgements old mid new first.brings then.brings;
+  other = then.other ∙ first.other;
+}

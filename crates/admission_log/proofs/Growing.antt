@@ -35,6 +35,9 @@ legal_appended settings h e legal fits = record {
 
 -- ---- what it tells
 
+pub events-appended : (h : History) (e : Event) → length (h.events ++ e ∷ []) ≡ length h.events + 1
+events-appended h e = length-append h.events (e ∷ [])
+
 pub last-appended : (h : History) (e : Event) → last_of (appended h e) ≡ fold max (last_of h) (filter_map tick_in (e ∷ []))
 last-appended h e = ap (fold max h.start) (filter_map-append tick_in h.events (e ∷ [])) ∙ fold-append max h.start (filter_map tick_in h.events) (filter_map tick_in (e ∷ []))
 

@@ -1,11 +1,12 @@
 pub mod Radars
 pub mod Growing
+pub mod Judgements
 pub mod Bringing
 pub mod Contents
 pub mod Reading
 pub mod Sound
 pub mod Rising
-pub mod Fronts
+pub mod Prefixes
 pub mod Arrivals
 pub mod Taken
 pub mod Keys

@@ -16,9 +16,10 @@ use Rattle.admission_log.specs.declared.delivery.Delivery.{Delivery}
 use Rattle.asterix_frame.proofs.Datagrams.{first_fault}
 use Rattle.admission_log.specs.declared.events.Event.TheVariants.{Deliver}
 use Rattle.admission_log.specs.Messages.{messages_in, messages_of, is_other, other_count}
-use Rattle.admission_log.specs.Deliveries.{admitted_by, judged_all, delivery}
+use Rattle.admission_log.specs.Deliveries.{admitted_count, IsDelivery}
+use Rattle.admission_log.proofs.Judgements.{judged_all, judged_all-append, one_judgement, delivery, is_delivery}
 use Rattle.admission_log.specs.Brought.{Brings, BringsBlock, IsFaultOfBlock}
-use Rattle.admission_log.proofs.Bringing.{judged_all-append, brings_none, brings_more}
+use Rattle.admission_log.proofs.Bringing.{brings_none, brings_more}
 
 -- nothing yet
 abbrev pub fresh : ℕ → Delivery
@@ -68,21 +69,22 @@ pub holds_more : (settings : Settings) (last next : ℕ) (datagram : List ℕ) (
     → (end : ℕ) → end ≡ block.at + length block.body.now → Holds settings last next datagram end new (contents ++ c ∷ [])
 holds_more settings last next datagram from old new contents block c h begins is same brings end end_is =
     let js = judged_all settings last next (messages_of contents) in
-    let ks = judged_all settings last (next + length (filter_map admitted_by js)) (messages_in c) in
+    let ks = judged_all settings last (next + admitted_count js) (messages_in c) in
     let rest = drop end datagram in
     let grown = datagram-more contents c (data_block block) same in
     let octets : drop from datagram ≡ spelled (data_block block) ++ rest = begins.octets ∙ ap (λ k. spelled (data_block block) ++ drop k datagram) (sym end_is) in
     let judged : js ++ ks ≡ judged_all settings last next (messages_of (contents ++ c ∷ [])) =
     sym (judged_all-append settings last next (messages_of contents) (messages_in c)) ∙ ap (judged_all settings last next) (sym (messages-more contents c)) in
-    let then : Brings ks old new = subst (λ n. Brings (judged_all settings last n (messages_in c)) old new) h.brings.next brings.0 in
+    let judgements = one_judgement settings last old.next (messages_in c) brings.judgements brings.are_judged in
+    let then : Brings ks old new = subst (λ js. Brings js old new) (judgements ∙ ap (λ n. judged_all settings last n (messages_in c)) h.brings.next) brings.brings in
     record {
       are_contents = all_more contents c h.are_contents is;
       whole = h.whole ∙ ap (λ t. datagram_of contents ++ t) octets ∙ sym (append_assoc (datagram_of contents) (spelled (data_block block)) rest) ∙ sym (ap (λ t. t ++ rest) grown);
       place = omega (arith, end_is, begins.place, h.place, ap length grown, length-append (datagram_of contents) (spelled (data_block block)));
       within = omega (arith, end_is, begins.within);
       brings = subst (λ t. Brings t (fresh next) new) judged (brings_more js ks (fresh next) old new h.brings then);
-      other = omega (arith, brings.1, h.other, other-more contents c);
-      few = omega (arith, brings.1, h.few, one_other c, end_is, begins.place);
+      other = omega (arith, brings.other, h.other, other-more contents c);
+      few = omega (arith, brings.other, h.few, one_other c, end_is, begins.place);
     }
 
 -- ---- how it ends
@@ -137,5 +139,7 @@ same_malformed datagram x m h k =
     λ i. record { offset = same.0 i; cause = same.1 i }
 
 -- the event of what it holds
-pub held : (settings : Settings) (last next : ℕ) (datagram : List ℕ) (from : ℕ) (d : Delivery) (contents : List Content) → Holds settings last next datagram from d contents → (feed : ℕ) → Deliver feed d.admitted d.outcomes d.other ≡ delivery settings last next feed contents
-held settings last next datagram from d contents h feed = λ i. Deliver feed (h.brings.admitted i) (h.brings.outcomes i) (h.other i)
+pub held : (settings : Settings) (last next : ℕ) (datagram : List ℕ) (from : ℕ) (d : Delivery) (contents : List Content) → Holds settings last next datagram from d contents → (feed : ℕ) → IsDelivery settings last next feed contents (Deliver feed d.admitted d.outcomes d.other)
+held settings last next datagram from d contents h feed =
+    let same : delivery settings last next feed contents ≡ Deliver feed d.admitted d.outcomes d.other = λ i. Deliver feed (sym h.brings.admitted i) (sym h.brings.outcomes i) (sym h.other i) in
+    subst (IsDelivery settings last next feed contents) same (is_delivery settings last next feed contents)

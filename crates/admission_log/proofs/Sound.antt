@@ -14,8 +14,9 @@ use Rattle.admission_log.specs.declared.events.Outcome.{Outcome}
 use Rattle.admission_log.specs.Sources.{radar_of}
 use Rattle.admission_log.specs.Histories.{low_at, high_at}
 use Rattle.admission_log.specs.Messages.{Message, report, service}
-use Rattle.admission_log.specs.Outcomes.{time_at, timed, placed, plotted, outcome_of}
-use Rattle.admission_log.specs.Deliveries.{judged_message, admitted_by, next_after, judged_all}
+use Rattle.admission_log.specs.Outcomes.{time_at, judged_time, judged_source, judged_plot, outcome_of}
+use Rattle.admission_log.specs.Deliveries.{judged_message, admitted_by}
+use Rattle.admission_log.proofs.Judgements.{next_after, judged_all}
 use Rattle.admission_log.specs.Legality.{arrival_in, IsLegalPlot, IsLegalOutcome, IsLegalDelivery}
 
 -- what is judged under an arrival fits the log
@@ -32,24 +33,24 @@ by_order P x y a b f g =
     ] in
     h (nat_lt x y) refl
 
-timed_sound : (settings : Settings) (last : ℕ) (a : Admitted) → radar_of settings.radars a.plot.sac a.plot.sic ≡ Some a.radar → a.time ≡ time_at settings last a.radar a.plot.tod → IsSound settings last a.arrival (timed settings last a)
-timed_sound settings last a known time =
+time_sound : (settings : Settings) (last : ℕ) (a : Admitted) → radar_of settings.radars a.plot.sac a.plot.sic ≡ Some a.radar → a.time ≡ time_at settings last a.radar a.plot.tod → IsSound settings last a.arrival (judged_time settings last a)
+time_sound settings last a known time =
     by_order (IsSound settings last a.arrival) (slot_of a.time) (low_at settings.window last) _ _
     (λ late. (refl, late))
     (λ not_late. by_order (IsSound settings last a.arrival) (high_at last) a.time _ _
     (λ ahead. (refl, ahead))
     (λ not_ahead. (refl, record { radar = known; time = time; not_late = not_late; not_ahead = not_ahead })))
 
-placed_sound : (settings : Settings) (last next : ℕ) (plot : RawPlot) (o : Option ℕ) → radar_of settings.radars plot.sac plot.sic ≡ o → IsSound settings last next (placed settings last next plot o)
-placed_sound settings last next plot None known = (refl, tt)
-placed_sound settings last next plot (Some radar) known = timed_sound settings last (record { arrival = next; radar = radar; time = time_at settings last radar plot.tod; plot = plot }) known refl
+source_sound : (settings : Settings) (last next : ℕ) (plot : RawPlot) (o : Option ℕ) → radar_of settings.radars plot.sac plot.sic ≡ o → IsSound settings last next (judged_source settings last next plot o)
+source_sound settings last next plot None known = (refl, tt)
+source_sound settings last next plot (Some radar) known = time_sound settings last (record { arrival = next; radar = radar; time = time_at settings last radar plot.tod; plot = plot }) known refl
 
-plotted_sound : (settings : Settings) (last next : ℕ) (r : Result RawPlot NotPlot) → IsSound settings last next (plotted settings last next r)
-plotted_sound settings last next (Ok plot) = placed_sound settings last next plot (radar_of settings.radars plot.sac plot.sic) refl
-plotted_sound settings last next (Err why) = (refl, tt)
+plot_sound : (settings : Settings) (last next : ℕ) (r : Result RawPlot NotPlot) → IsSound settings last next (judged_plot settings last next r)
+plot_sound settings last next (Ok plot) = source_sound settings last next plot (radar_of settings.radars plot.sac plot.sic) refl
+plot_sound settings last next (Err why) = (refl, tt)
 
 message_sound : (settings : Settings) (last next : ℕ) (m : Message) → IsSound settings last next (judged_message settings last next m)
-message_sound settings last next (report r) = plotted_sound settings last next (plot_of r)
+message_sound settings last next (report r) = plot_sound settings last next (plot_of r)
 message_sound settings last next (service s) = (refl, tt)
 
 -- of each, under rising arrivals

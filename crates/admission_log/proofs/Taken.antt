@@ -9,14 +9,14 @@ use Rattle.plot_geometry.proofs.PlaneLaws.{key-plane_plot}
 use Rattle.admission_log.specs.declared.settings.Settings.{Settings}
 use Rattle.admission_log.specs.declared.events.Admitted.{Admitted}
 use Rattle.admission_log.specs.declared.events.Event.{Event}
-use Rattle.admission_log.specs.declared.events.Event.TheVariants.{Deliver, Tick, Publish}
+use Rattle.admission_log.specs.declared.events.Event.TheVariants.{Deliver, Tick, Publish, Bias}
 use Rattle.admission_log.specs.Sources.{HasSource}
 use Rattle.admission_log.specs.Histories.{History, appended, admitted_in, admitted_of, last_of, high_at}
 use Rattle.admission_log.specs.Legality.{IsLegal, IsLegalEvent, WasOpen}
 use Rattle.admission_log.specs.Plots.{key_of, plane_of}
 use Rattle.admission_log.proofs.Radars.{radar_found, found_within}
 use Rattle.admission_log.proofs.Growing.{admitted-appended}
-use Rattle.admission_log.proofs.Fronts.{last_grows, by_events}
+use Rattle.admission_log.proofs.Prefixes.{last_grows, by_events}
 
 -- ---- open at some moment
 
@@ -30,6 +30,7 @@ opened : (settings : Settings) (before : History) (e : Event) → IsLegalEvent s
 opened settings before (Deliver feed admitted told other) fits = All-weaker _ (WasOpen settings (last_of before)) (λ a h. record { tick = last_of before; earlier = omega arith; legal = h }) admitted fits.plots
 opened settings before (Tick time) fits = All-nil (WasOpen settings (last_of before))
 opened settings before (Publish number cut) fits = All-nil (WasOpen settings (last_of before))
+opened settings before (Bias radar slot bias) fits = All-nil (WasOpen settings (last_of before))
 
 open_more : (settings : Settings) (before : History) (e : Event) → IsLegalEvent settings before e → AllOpen settings before → AllOpen settings (appended before e)
 open_more settings before e fits h =

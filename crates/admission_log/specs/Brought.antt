@@ -7,29 +7,35 @@ use Rattle.asterix_frame.specs.declared.tables.Uap.{Uap}
 use Rattle.asterix_frame.specs.Tables.{category_of}
 use Rattle.asterix_frame.specs.Bodies.{IsFaultOfBody}
 use Rattle.asterix_frame.specs.Datagrams.{Content, IsRead}
-use Rattle.admission_log.specs.declared.log.TheConstants.{LIMIT}
 use Rattle.admission_log.specs.declared.settings.Settings.{Settings}
 use Rattle.admission_log.specs.declared.events.Admitted.{Admitted}
 use Rattle.admission_log.specs.declared.events.Outcome.{Outcome}
 use Rattle.admission_log.specs.declared.delivery.Delivery.{Delivery}
 use Rattle.admission_log.specs.Messages.{Message, messages_in, other_count}
 use Rattle.admission_log.specs.Outcomes.{outcome_of}
-use Rattle.admission_log.specs.Deliveries.{admitted_by, judged_all}
+use Rattle.admission_log.specs.Histories.{count_limit}
+use Rattle.admission_log.specs.Deliveries.{admitted_by, admitted_count, AreJudged}
 
 -- the new one has what was judged besides
 pub record Brings (js : List (Result Admitted Outcome)) (old new : Delivery) : Type 0 where
-  pub next : new.next ≡ old.next + length (filter_map admitted_by js)
+  pub next : new.next ≡ old.next + admitted_count js
   pub admitted : new.admitted ≡ old.admitted ++ filter_map admitted_by js
   pub outcomes : new.outcomes ≡ old.outcomes ++ map outcome_of js
-  pub limit : old.next ≤ LIMIT → new.next ≤ LIMIT
+  pub limit : old.next ≤ count_limit → new.next ≤ count_limit
 
 -- .. of these messages
-abbrev pub BringsMessages : Settings → ℕ → List Message → Delivery → Delivery → Type 0
-BringsMessages settings last ms old new = Brings (judged_all settings last old.next ms) old new × (new.other ≡ old.other)
+pub record BringsMessages (settings : Settings) (last : ℕ) (messages : List Message) (old new : Delivery) : Type 0 where
+  pub judgements : List (Result Admitted Outcome)
+  pub are_judged : AreJudged settings last old.next messages judgements
+  pub brings : Brings judgements old new
+  pub other : new.other ≡ old.other
 
 -- .. of the messages of a block
-abbrev pub BringsBlock : Settings → ℕ → Content → Delivery → Delivery → Type 0
-BringsBlock settings last c old new = Brings (judged_all settings last old.next (messages_in c)) old new × (new.other ≡ old.other + other_count (c ∷ []))
+pub record BringsBlock (settings : Settings) (last : ℕ) (content : Content) (old new : Delivery) : Type 0 where
+  pub judgements : List (Result Admitted Outcome)
+  pub are_judged : AreJudged settings last old.next (messages_in content) judgements
+  pub brings : Brings judgements old new
+  pub other : new.other ≡ old.other + other_count (content ∷ [])
 
 -- the body of a block of a category that is read isn't records
 pub record IsFaultOfBlock (block : Block) (m : Malformed) : Type 0 where

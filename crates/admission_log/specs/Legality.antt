@@ -7,10 +7,11 @@ use Rattle.admission_log.specs.declared.events.Admitted.{Admitted}
 use Rattle.admission_log.specs.declared.events.Outcome.{Outcome}
 use Rattle.admission_log.specs.declared.events.Outcome.TheVariants as outcomes
 use Rattle.admission_log.specs.declared.events.Event.{Event}
-use Rattle.admission_log.specs.declared.events.Event.TheVariants.{Deliver, Tick, Publish}
+use Rattle.admission_log.specs.declared.events.Event.TheVariants.{Deliver, Tick, Publish, Bias}
 use Rattle.admission_log.specs.Sources.{radar_of}
 use Rattle.admission_log.specs.Histories.{History, first, last_of, next_of, published_of, cut_of, low_at, high_at}
 use Rattle.admission_log.specs.Outcomes.{time_at}
+use Rattle.admission_log.specs.Changes.{IsOpenChange}
 
 -- the arrival that an outcome tells
 abbrev pub arrival_in : Outcome → Option ℕ
@@ -43,11 +44,12 @@ pub record IsLegalDelivery (settings : Settings) (last next : ℕ) (admitted : L
   pub plots : All (IsLegalPlot settings last) admitted
   pub others : All (IsLegalOutcome settings last) told
 
--- The event fits these earlier ones: a tick is later than they are, and an edition has the next number, and shows no fewer events than the one before it and none that isn't there.
+-- The event fits these earlier ones: a tick is later than they are; an edition has the next number, and shows no fewer events than the one before it and none that isn't there; a change of biases is open.
 abbrev pub IsLegalEvent : Settings → History → Event → Type 0
 IsLegalEvent settings before (Deliver feed admitted told other) = IsLegalDelivery settings (last_of before) (next_of before) admitted told
 IsLegalEvent settings before (Tick time) = (last_of before < time) × (time < 2 ^ 40)
 IsLegalEvent settings before (Publish number cut) = (number ≡ published_of before + 1) × (cut_of before ≤ cut) × (cut ≤ length before.events)
+IsLegalEvent settings before (Bias radar slot bias) = IsOpenChange settings (last_of before) radar slot × (slot < 2 ^ 34)
 
 pub record IsLegal (settings : Settings) (log : History) : Type 0 where
-  pub each : (place : ℕ) (event : Event) → slice_get log.events place ≡ Some event → IsLegalEvent settings (first place log) event
+  pub each : (index : ℕ) (event : Event) → slice_get log.events index ≡ Some event → IsLegalEvent settings (first index log) event

@@ -4,6 +4,7 @@ pub mod Outcomes
 pub mod Messages
 pub mod Deliveries
 pub mod Brought
+pub mod Changes
 pub mod Legality
 pub mod Logs
 pub mod Plots

@@ -1,8 +1,7 @@
 -- What a log keeps beside its events.
-use Rattle.std.specs.Prelude.{◌≡◌, ◌<◌, ◌≤◌, ◌^◌}
+use Rattle.std.specs.Prelude.{◌≡◌, ◌<◌, ◌≤◌, ◌^◌, length}
 use Rattle.admission_log.specs.declared.log.Log.TheInside.{Inside}
-use Rattle.admission_log.specs.declared.log.TheConstants.{LIMIT}
-use Rattle.admission_log.specs.Histories.{History, last_of, next_of, published_of, cut_of}
+use Rattle.admission_log.specs.Histories.{History, last_of, next_of, published_of, cut_of, count_limit}
 
 abbrev pub history : Inside → History
 history log = record { start = log.start; events = log.events }
@@ -13,4 +12,7 @@ pub record IsLog (log : Inside) : Type 0 where
   pub published : log.published ≡ published_of (history log)
   pub cut : log.cut ≡ cut_of (history log)
   pub in_time : log.last < 2 ^ 40
-  pub few : log.next ≤ LIMIT
+  pub few_plots : log.next ≤ count_limit
+  pub few_editions : log.published < count_limit
+  pub few_events : length log.events ≤ count_limit
+  pub cut_within : log.cut ≤ length log.events

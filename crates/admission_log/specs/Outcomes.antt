@@ -24,25 +24,25 @@ abbrev pub time_at : Settings → ℕ → ℕ → ℕ → ℕ
 time_at settings last radar tod = not_below_zero (pos (unwrapped tod last) -ℤ time_bias_of settings.radars radar)
 
 -- a plot, if its slot and its time are open
-abbrev pub timed : Settings → ℕ → Admitted → Result Admitted Outcome
-timed settings last a =
+abbrev pub judged_time : Settings → ℕ → Admitted → Result Admitted Outcome
+judged_time settings last a =
     if nat_lt (slot_of a.time) (low_at settings.window last) then Err (outcomes.BeforeHorizon (slot_of a.time) (low_at settings.window last))
     else if nat_lt (high_at last) a.time then Err (outcomes.Ahead a.time (high_at last))
     else Ok a
 
 -- a plot, if its source is that of a radar
-abbrev pub placed : Settings → ℕ → ℕ → RawPlot → Option ℕ → Result Admitted Outcome
-placed settings last arrival plot None = Err outcomes.UnknownRadar
-placed settings last arrival plot (Some radar) = timed settings last (record { arrival = arrival; radar = radar; time = time_at settings last radar plot.tod; plot = plot })
+abbrev pub judged_source : Settings → ℕ → ℕ → RawPlot → Option ℕ → Result Admitted Outcome
+judged_source settings last arrival plot None = Err outcomes.UnknownRadar
+judged_source settings last arrival plot (Some radar) = judged_time settings last (record { arrival = arrival; radar = radar; time = time_at settings last radar plot.tod; plot = plot })
 
 -- a report, if it tells a plot
-abbrev pub plotted : Settings → ℕ → ℕ → Result RawPlot NotPlot → Result Admitted Outcome
-plotted settings last arrival (Err why) = Err (outcomes.NotPlot why)
-plotted settings last arrival (Ok plot) = placed settings last arrival plot (radar_of settings.radars plot.sac plot.sic)
+abbrev pub judged_plot : Settings → ℕ → ℕ → Result RawPlot NotPlot → Result Admitted Outcome
+judged_plot settings last arrival (Err why) = Err (outcomes.NotPlot why)
+judged_plot settings last arrival (Ok plot) = judged_source settings last arrival plot (radar_of settings.radars plot.sac plot.sic)
 
 -- what is admitted of a report after a last tick, under that arrival, or what is told of it
-abbrev pub judged : Settings → ℕ → ℕ → Report → Result Admitted Outcome
-judged settings last arrival report = plotted settings last arrival (plot_of report)
+abbrev pub judged_report : Settings → ℕ → ℕ → Report → Result Admitted Outcome
+judged_report settings last arrival report = judged_plot settings last arrival (plot_of report)
 
 -- what is told of either
 abbrev pub outcome_of : Result Admitted Outcome → Outcome

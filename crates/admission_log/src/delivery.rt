@@ -3,11 +3,11 @@ ghost use Rattle.std.specs.Prelude.{◌≡◌, ◌+◌, ◌<◌, ◌≤◌, ◌^
 ghost use Rattle.asterix_frame.specs.declared.block.Malformed.{Malformed};
 ghost use Rattle.asterix_frame.specs.Answers.{IfMalformed, Reads, Refuses};
 ghost use Rattle.asterix_frame.specs.Datagrams.{Content, IsDatagram, DatagramFault};
-ghost use Rattle.admission_log.specs.Histories.{admitted_in};
-ghost use Rattle.admission_log.specs.Deliveries.{delivery};
+ghost use Rattle.admission_log.specs.Histories.{admitted_in, count_limit};
+ghost use Rattle.admission_log.specs.Deliveries.{IsDelivery};
 
 use crate::judging::{admission, counted_radar};
-use crate::log::LIMIT;
+use crate::log::COUNT_LIMIT;
 use crate::{AdmitError, Admitted, Event, Outcome, Settings};
 use asterix_frame::{Block, first_block};
 use cat034_in::{Service, read034};
@@ -26,9 +26,12 @@ pub(crate) struct Delivery {
     other: u32,
 }
 
-/// The event of a datagram that came from a feed after a last tick, where the next plot that is admitted has the arrival `next`.
+/// The event of a datagram that came from a feed after a last tick, where the next plot that is
+/// admitted has the arrival `next`.
 ///
-/// It is refused as malformed exactly where it isn't in the grammar, by the first fault in the order of reading: a block's head, then its records, then the next head. Blocks of other categories than 34 and 48 are passed over and counted.
+/// It is refused as malformed exactly where it isn't in the grammar, by the first fault in the
+/// order of reading: a block's head, then its records, then the next head. Blocks of other
+/// categories than 34 and 48 are passed over and counted.
 pub fn deliver(
     alloc: Global,
     settings: &Settings,
@@ -39,15 +42,15 @@ pub fn deliver(
 ) -> Result<Event, AdmitError>
     requires in_time { last < 2 ^ 40 }
     requires length { length datagram.now ≤ 65535 }
-    ensures delivered { IfOk result (λ e. (contents : List Content) × IsDatagram datagram.now contents × (e ≡ delivery settings.now last next feed contents)) }
+    ensures delivered { IfOk result (λ e. (contents : List Content) × IsDatagram datagram.now contents × IsDelivery settings.now last next feed contents e) }
     ensures malformed { IfMalformed result (λ m. DatagramFault datagram.now m.offset m.cause) }
 
     // The other directions, unless memory is wanting.
-    ensures reads { (contents : List Content) → IsDatagram datagram.now contents → Reads result (λ e. e ≡ delivery settings.now last next feed contents) }
+    ensures reads { (contents : List Content) → IsDatagram datagram.now contents → Reads result (λ e. IsDelivery settings.now last next feed contents e) }
     ensures refuses { (m : Malformed) → DatagramFault datagram.now m.offset m.cause → Refuses result (λ x. x ≡ m) }
 
     // No arrival reaches the limit.
-    ensures arrivals { next ≤ LIMIT → IfOk result (λ e. next + length (admitted_in e) ≤ LIMIT) }
+    ensures arrivals { next ≤ count_limit → IfOk result (λ e. next + length (admitted_in e) ≤ count_limit) }
 {
     let mut delivery = Delivery {
         next,
@@ -146,7 +149,7 @@ impl Delivery {
     {
         match judged {
             Ok(admitted) => {
-                if self.next >= LIMIT {
+                if self.next >= COUNT_LIMIT {
                     return Err(NoMemory);
                 }
                 self.outcomes.push(Outcome::Admitted(admitted.arrival))?;

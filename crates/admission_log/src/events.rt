@@ -1,12 +1,14 @@
+// What a log consists of, and what is told of each call that adds to it.
 use asterix_frame::BlocksError;
 use cat048_in::NotPlot;
+use plot_geometry::Bias;
 use std::alloc::Global;
 use trk_base::{NoMemory, RawPlot, Sequence, TryCopy};
 
 /// A plot that was admitted.
 #[derive(Clone, Copy, Debug, PartialEq, Eq)]
 pub struct Admitted {
-    /// Its place among all plots that were admitted to the log, from 0.
+    /// Its number among all plots that were admitted to the log, from 0.
     pub arrival: u64,
     /// The index of its radar in the settings.
     pub radar: u8,
@@ -39,7 +41,8 @@ pub enum Outcome {
         /// The last time that a plot may have.
         high: u64,
     },
-    /// A radar service message. It counts for the radar of that index where its source is that radar's and its type is north marker or sector crossing, and else for none.
+    /// A radar service message. It counts for the radar of that index where its source is that
+    /// radar's and its type (I034/000) is north marker or sector crossing, and else for none.
     Service(Option<u8>),
 }
 
@@ -54,7 +57,8 @@ pub enum Event {
         admitted: Sequence<Admitted>,
         /// What became of each of its messages, in order.
         outcomes: Sequence<Outcome>,
-        /// How many of its blocks were passed over, for they are of other categories than 34 and 48.
+        /// How many of its blocks were passed over, for they are of other categories than 34 and
+        /// 48.
         other: u32,
     },
     /// Time has come to this moment, in 1/128 s.
@@ -65,6 +69,15 @@ pub enum Event {
         number: u64,
         /// How many events of the log it shows.
         cut: u64,
+    },
+    /// The biases of a radar were changed from a slot on.
+    Bias {
+        /// The index of the radar in the settings.
+        radar: u8,
+        /// The first slot for whose plots the change holds.
+        slot: u64,
+        /// The biases in place of those before.
+        bias: Bias,
     },
 }
 
@@ -87,6 +100,11 @@ impl TryCopy for Event {
                 number: *number,
                 cut: *cut,
             },
+            Event::Bias { radar, slot, bias } => Event::Bias {
+                radar: *radar,
+                slot: *slot,
+                bias: *bias,
+            },
         })
     }
 }
@@ -94,7 +112,7 @@ impl TryCopy for Event {
 /// What is told of a datagram that was admitted.
 #[derive(Debug, PartialEq, Eq, Drop)]
 pub struct Receipt {
-    /// The place of its event in the log.
+    /// The index of its event in the log.
     pub at: u64,
     /// What became of each of its messages, in order.
     pub outcomes: Sequence<Outcome>,
@@ -123,5 +141,35 @@ impl From<NoMemory> for TickError {
 
     fn from(_: NoMemory) -> Self {
         TickError::NoMemory
+    }
+}
+
+/// Why a change of biases wasn't taken: the first of these that applies.
+#[derive(Clone, Copy, Debug, PartialEq, Eq)]
+pub enum BiasError {
+    /// No radar has that index.
+    UnknownRadar {
+        /// How many radars there are.
+        radars: u8,
+    },
+    /// It would hold from a slot on that is below `low`, the first that is still open.
+    BeforeHorizon {
+        /// That slot.
+        slot: u64,
+        /// The first slot from which a change may hold.
+        low: u64,
+    },
+    /// Memory is wanting.
+    NoMemory,
+}
+
+impl From<NoMemory> for BiasError {
+    ghost use Rattle.std.specs.Prelude.{◌≡◌};
+    ghost use Rattle.admission_log.specs.declared.events.BiasError.TheVariants as errors;
+
+    ghost from_gives = { λ _ e. e ≡ errors.NoMemory };
+
+    fn from(_: NoMemory) -> Self {
+        BiasError::NoMemory
     }
 }

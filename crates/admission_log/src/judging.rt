@@ -1,22 +1,26 @@
-// What becomes of one message.
-ghost use Rattle.std.specs.Prelude.{◌≡◌, ◌<◌, ◌^◌, pos, ◌-ℤ◌};
+// What becomes of one message, and of a change of biases.
+ghost use Rattle.std.specs.Prelude.{◌≡◌, ◌≢◌, ◌<◌, ◌^◌, pos, ◌-ℤ◌, Err, IfErr, OnOk};
 ghost use Rattle.trk_base.specs.Ranges.{IsTimeOfDay};
 ghost use Rattle.plot_geometry.specs.Plane.{not_below_zero};
-ghost use Rattle.admission_log.specs.Outcomes.{judged, outcome_of, time_bias_of, time_at, timed, counted_radar};
+ghost use Rattle.admission_log.specs.Outcomes.{judged_report, judged_time, outcome_of, time_bias_of, time_at, counted_radar};
+ghost use Rattle.admission_log.specs.Histories.{low_at};
+ghost use Rattle.admission_log.specs.Changes.{IsOpenChange, IsRefusal};
 
-use crate::{Admitted, Outcome, Settings};
+use crate::{Admitted, BiasError, Outcome, Settings};
 use cat048_in::Report;
 use trk_base::{slot_of, unwrap_tod};
 
 /// How far ahead of the last tick a plot's time may be, in 1/128 s.
-pub const MOST_AHEAD: u64 = 512;
+pub const AHEAD_LIMIT: u64 = 512;
 
-/// What becomes of a target report after a last tick, where the next plot that is admitted has the arrival `next`. It takes no memory.
+/// What becomes of a target report after a last tick, where the next plot that is admitted has the
+/// arrival `next`. It takes no memory.
 ///
-/// The first of these that applies: it tells no plot; its SAC and SIC are those of no radar; the slot of its time is below the window; its time is too far ahead; it is admitted.
+/// The first of these that applies: it tells no plot; its SAC and SIC are those of no radar; the
+/// slot of its time is before the horizon; its time is too far ahead; it is admitted.
 pub fn judge(settings: &Settings, last: u64, next: u64, report: &Report) -> Outcome
     requires { last < 2 ^ 40 }
-    ensures { result ≡ outcome_of (judged settings.now last next report.now) }
+    ensures { result ≡ outcome_of (judged_report settings.now last next report.now) }
 {
     match admission(settings, last, next, report) {
         Ok(admitted) => Outcome::Admitted(admitted.arrival),
@@ -32,7 +36,7 @@ pub(crate) fn admission(
     report: &Report,
 ) -> Result<Admitted, Outcome>
     requires { last < 2 ^ 40 }
-    ensures { result ≡ judged settings.now last arrival report.now }
+    ensures { result ≡ judged_report settings.now last arrival report.now }
 {
     let plot = match report.plot() {
         Ok(plot) => plot,
@@ -83,11 +87,11 @@ fn freed(time: u64, bias: i16) -> u64
 // The plot, if its slot and its time are open.
 fn within(settings: &Settings, last: u64, admitted: Admitted) -> Result<Admitted, Outcome>
     requires { last < 2 ^ 40 }
-    ensures { result ≡ timed settings.now last admitted }
+    ensures { result ≡ judged_time settings.now last admitted }
 {
     let slot = slot_of(admitted.time);
-    let low = slot_of(last).saturating_sub(u64::from(settings.window));
-    let high = last + MOST_AHEAD;
+    let low = low_at(settings, last);
+    let high = last + AHEAD_LIMIT;
     if slot < low {
         Err(Outcome::BeforeHorizon { slot, low })
     } else if admitted.time > high {
@@ -98,6 +102,34 @@ fn within(settings: &Settings, last: u64, admitted: Admitted) -> Result<Admitted
     } else {
         Ok(admitted)
     }
+}
+
+// The horizon: the first slot that is open after a last tick.
+fn low_at(settings: &Settings, last: u64) -> u64
+    ensures { result ≡ low_at settings.now.window last }
+{
+    slot_of(last).saturating_sub(u64::from(settings.window))
+}
+
+/// Whether a change of the biases of the radar of an index is taken after a last tick, where it is
+/// to hold from a slot on, and else why not. It takes no memory.
+///
+/// The first of these that applies: no radar has that index; the slot is before the horizon; it is
+/// taken.
+pub fn judge_bias(settings: &Settings, last: u64, radar: u8, slot: u64) -> Result<(), BiasError>
+    ensures open { OnOk result (IsOpenChange settings.now last radar slot) }
+    ensures refusal { IfErr result (IsRefusal settings.now last radar slot) }
+    ensures no_memory { result ≢ Err BiasError.NoMemory }
+{
+    let radars = settings.radars.len() as u8;
+    if radar >= radars {
+        return Err(BiasError::UnknownRadar { radars });
+    }
+    let low = low_at(settings, last);
+    if slot < low {
+        return Err(BiasError::BeforeHorizon { slot, low });
+    }
+    Ok(())
 }
 
 // The radar that a service message counts for.

@@ -5,7 +5,10 @@ ghost use Rattle.std.specs.List.Sorted.{IsPermutation, IsSorted, IsStrictlySorte
 ghost use Rattle.trk_base.specs.Keys.{key_cmp};
 ghost use Rattle.plot_geometry.specs.Plots.{PlanePlot};
 ghost use Rattle.plot_geometry.specs.PlotOrder.{plot_cmp};
+ghost use Rattle.asterix_frame.specs.Datagrams.{Content};
 ghost use Rattle.admission_log.specs.declared.settings.Settings.{Settings};
+ghost use Rattle.admission_log.specs.declared.events.Event.{Event};
+ghost use Rattle.admission_log.specs.Deliveries.{IsDelivery};
 ghost use Rattle.admission_log.specs.Histories.{History, first, last_of, admitted_of, next_of, high_at};
 ghost use Rattle.admission_log.specs.Legality.{IsLegal, WasOpen};
 ghost use Rattle.admission_log.specs.Plots.{in_rising_key, key_of, plane_of, plots_of};
@@ -22,14 +25,22 @@ pub fn arrivals_count()
     ensures { (settings : Settings) (log : History) → IsLegal settings log → map (λ a. a.arrival) (admitted_of log) ≡ range_with_len 0 (next_of log) }
 {}
 
-/// A legal log was legal at each earlier moment, and its last tick has never fallen and is below 2^40.
-pub fn legal_fronts()
+/// A datagram of given blocks has exactly one event, after a given last tick and next arrival.
+pub fn one_delivery()
+    ensures some { (settings : Settings) (last next feed : ℕ) (contents : List Content) → (event : Event) × IsDelivery settings last next feed contents event }
+    ensures only { (settings : Settings) (last next feed : ℕ) (contents : List Content) (a b : Event) → IsDelivery settings last next feed contents a → IsDelivery settings last next feed contents b → a ≡ b }
+{}
+
+/// A legal log was legal at each earlier moment, and its last tick has never fallen and is below
+/// 2^40.
+pub fn legal_prefixes()
     ensures legal { (settings : Settings) (log : History) (n : ℕ) → IsLegal settings log → IsLegal settings (first n log) }
     ensures rises { (log : History) (n : ℕ) → last_of (first n log) ≤ last_of log }
     ensures in_time { (settings : Settings) (log : History) → IsLegal settings log → log.start < 2 ^ 40 → last_of log < 2 ^ 40 }
 {}
 
-/// Each plot that a legal log has admitted was open at some moment, is of a radar of the settings, isn't too far ahead, and has its place and its key in the plane.
+/// Each plot that a legal log has admitted was open at some moment, is of a radar of the settings,
+/// isn't too far ahead, and has its position and its key in the plane.
 pub fn admitted_plots()
     ensures was_open { (settings : Settings) (log : History) → IsLegal settings log → All (WasOpen settings (last_of log)) (admitted_of log) }
     ensures radar { (settings : Settings) (log : History) → IsLegal settings log → All (λ a. a.radar < length settings.radars) (admitted_of log) }

@@ -1,4 +1,5 @@
-//! What is admitted: the settings by which plots are judged, and the one log of datagrams, ticks and editions.
+//! What is admitted: the settings by which plots are judged, and the one log of datagrams, ticks,
+//! editions and changes of biases.
 #![tactic(auto)]
 
 mod delivery;
@@ -11,8 +12,10 @@ mod settings;
 mod tests;
 
 pub use delivery::deliver;
-pub use events::{AdmitError, Admitted, Event, Outcome, Receipt, TickError};
-pub use judging::{MOST_AHEAD, judge};
-pub use laws::{admitted_plots, arrivals_count, keys_rise, legal_fronts, one_rising_order};
-pub use log::{LIMIT, Log};
-pub use settings::{MAX_RADARS, Settings, radar_of};
+pub use events::{AdmitError, Admitted, BiasError, Event, Outcome, Receipt, TickError};
+pub use judging::{AHEAD_LIMIT, judge, judge_bias};
+pub use laws::{
+    admitted_plots, arrivals_count, keys_rise, legal_prefixes, one_delivery, one_rising_order,
+};
+pub use log::{COUNT_LIMIT, Log};
+pub use settings::{RADAR_LIMIT, Settings, radar_of};

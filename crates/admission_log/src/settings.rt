@@ -1,3 +1,4 @@
+// By which settings plots are judged.
 ghost use Rattle.std.specs.Prelude.{◌≡◌, ◌<◌, ◌≤◌, length, IfSome};
 ghost use Rattle.admission_log.specs.Sources.{HaveOwnSources, radar_of};
 
@@ -10,9 +11,10 @@ use track_life::LifeSettings;
 use trk_base::{NoMemory, Sequence, TryCopy};
 
 /// How many radars the settings have at most.
-pub const MAX_RADARS: usize = 32;
+pub const RADAR_LIMIT: usize = 32;
 
-/// The settings of the tracker. The SAC and SIC of each radar are its own, so that a report's source names one radar at most.
+/// The settings of the tracker. The SAC and SIC of each radar are its own, so that a report's source
+/// names one radar at most.
 #[derive(Debug, PartialEq, Eq, Drop)]
 pub struct Settings {
     /// System area code of the tracker itself.
@@ -25,7 +27,7 @@ pub struct Settings {
     pub window: u8,
     /// The life of tracks.
     pub life: LifeSettings,
-    /// The radars, from 1 to 32. A radar's index is its place here.
+    /// The radars, from 1 to 32. A radar is named by its index here.
     pub radars: Sequence<RadarSettings>,
     pub ghost window_range: { (2 ≤ window) × (window ≤ 120) },
     pub ghost radars_range: { (1 ≤ length radars) × (length radars ≤ 32) },
@@ -49,22 +51,24 @@ impl Settings {
     ghost use Rattle.std.specs.Prelude.{IfNone, IsSomeAnd, All, slice_get};
     ghost use Rattle.admission_log.specs.Sources.{HasSource};
 
-    /// The index of the radar with a SAC and a SIC, or None where no radar has them. It takes no memory.
+    /// The index of the radar with a SAC and a SIC, or None where no radar has them. It takes no
+    /// memory.
     pub fn radar(&self, sac: u8, sic: u8) -> Option<u8>
-        ensures place { result ≡ radar_of self.now.radars sac sic }
+        ensures index { result ≡ radar_of self.now.radars sac sic }
         ensures found { IfSome result (λ n. IsSomeAnd (slice_get self.now.radars n) (HasSource sac sic)) }
         ensures none { IfNone result (All (λ radar. ¬ HasSource sac sic radar) self.now.radars) }
     {
         match radar_of(self.radars.as_slice(), sac, sic) {
-            Some(place) => Some(place as u8),
+            Some(index) => Some(index as u8),
             None => None,
         }
     }
 }
 
-/// The place of the first radar with a SAC and a SIC, or None where no radar has them. It takes no memory.
+/// The index of the first radar with a SAC and a SIC, or None where no radar has them. It takes no
+/// memory.
 pub fn radar_of(radars: &[RadarSettings], sac: u8, sic: u8) -> Option<usize>
-    ensures place { result ≡ radar_of radars.now sac sic }
+    ensures index { result ≡ radar_of radars.now sac sic }
     ensures within { IfSome result (λ n. n < length radars.now) }
 {
     radars

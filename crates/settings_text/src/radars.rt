@@ -14,7 +14,7 @@ use crate::faults::{KeyPath, SettingsError, SettingsFault};
 use crate::keys::RADAR_KEYS;
 use crate::narrow::{to_i16, to_i32, to_u8, to_u16};
 use crate::tables::{has_only, numbers, values_at};
-use admission_log::{MAX_RADARS, radar_of};
+use admission_log::{RADAR_LIMIT, radar_of};
 use plot_geometry::RadarSettings;
 use std::alloc::Global;
 use toml::{Table, Value};
@@ -102,9 +102,9 @@ fn read_entries(alloc: Global, entries: &[Value]) -> Result<Vec<RadarSettings>, 
     if entries.is_empty() {
         return Err(SettingsError::Fault(SettingsFault::Missing(first_key(0))));
     }
-    let first = entries.len().min(MAX_RADARS);
+    let first = entries.len().min(RADAR_LIMIT);
     let radars = read_first(alloc, &entries[..first])?;
-    if entries.len() > MAX_RADARS {
+    if entries.len() > RADAR_LIMIT {
         return Err(SettingsError::Fault(SettingsFault::Range(first_key(32))));
     }
     Ok(radars)

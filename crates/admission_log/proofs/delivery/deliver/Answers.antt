@@ -1,10 +1,11 @@
-use Rattle.std.proofs.Common.{◌≡◌, ◌∙◌, ap, [], ◌∷◌, ◌++◌}
+use Rattle.std.proofs.Common.{◌≡◌, ◌∙◌, ap, subst, [], ◌∷◌, ◌++◌}
 use Rattle.std.proofs.lemmas.Result.{err_from_is_err_and}
 use Rattle.asterix_frame.specs.Datagrams.{DatagramFault}
 use Rattle.asterix_frame.proofs.Datagrams.{one_list, not_both}
 use Rattle.asterix_frame.proofs.Refusals.{passes_malformed, passes_reads, passes_refuses}
 use Rattle.admission_log.specs.declared.events.Event.{Event}
-use Rattle.admission_log.specs.Deliveries.{delivery}
+use Rattle.admission_log.specs.declared.events.Event.TheVariants.{Deliver}
+use Rattle.admission_log.specs.Deliveries.{IsDelivery}
 use Rattle.admission_log.specs.Brought.{IsFaultOfBlock}
 use Rattle.admission_log.proofs.Reading.{holds_more, is_datagram, head_fault, records_fault, held, same_malformed}
 use Rattle.admission_log.proofs.delivery.deliver.Goals as goal
@@ -33,7 +34,7 @@ pub returns-in_err-add_block-clause-reads : goal.returns-in_err-add_block-clause
 returns-in_err-add_block-clause-reads c = λ contents is.
     let inv = c.loop-from.invariant in
     let p = err_from_is_err_and c.from_residual-in_err-add_block.result c.from_residual-in_err-add_block.ensures.1 in
-    rw (p.1, p.2) (passes_reads (Unit {0}) Event (IsFaultOfBlock c.in_ok-block.block) c.in_err-add_block.field-0.0 (λ e. e ≡ delivery c.args.settings.now c.args.last c.args.next c.args.feed contents) c.in_err-add_block.ensures.malformed
+    rw (p.1, p.2) (passes_reads (Unit {0}) Event (IsFaultOfBlock c.in_ok-block.block) c.in_err-add_block.field-0.0 (λ e. IsDelivery c.args.settings.now c.args.last c.args.next c.args.feed contents e) c.in_err-add_block.ensures.malformed
     (λ m h. not_both c.args.datagram.now contents _ _ is (records_fault c.args.settings.now c.args.last c.args.next c.args.datagram.now c.loop-from.from c.loop-from.delivery inv.0 c.in_ok-block.block m inv.1 c.in_ok-block.ensures.found h)))
 
 pub returns-in_err-add_block-clause-refuses : goal.returns-in_err-add_block-clause-refuses
@@ -49,11 +50,19 @@ loop-from-preserved c =
     let read = c.in_ok-add_block.ensures.read in
     (inv.0 ++ read.0 ∷ [], holds_more c.args.settings.now c.args.last c.args.next c.args.datagram.now c.loop-from.from c.loop-from.delivery c.add_block.new.self inv.0 c.in_ok-block.block read.0 inv.1 c.in_ok-block.ensures.found read.1 read.2 read.3 c.end-from.result c.end-from.ensures)
 
+pub returns-clause-delivered : goal.returns-clause-delivered
+returns-clause-delivered c =
+    let inv = c.loop-from.invariant in
+    let d = c.loop-from.delivery in
+    (inv.0, is_datagram c.args.settings.now c.args.last c.args.next c.args.datagram.now c.loop-from.from d inv.0 inv.1 c.loop-from-test.false, held c.args.settings.now c.args.last c.args.next c.args.datagram.now c.loop-from.from d inv.0 inv.1 c.args.feed)
+
 pub returns-clause-reads : goal.returns-clause-reads
 returns-clause-reads c = λ contents is.
     let inv = c.loop-from.invariant in
+    let d = c.loop-from.delivery in
     let mine = is_datagram c.args.settings.now c.args.last c.args.next c.args.datagram.now c.loop-from.from c.loop-from.delivery inv.0 inv.1 c.loop-from-test.false in
-    held c.args.settings.now c.args.last c.args.next c.args.datagram.now c.loop-from.from c.loop-from.delivery inv.0 inv.1 c.args.feed ∙ ap (delivery c.args.settings.now c.args.last c.args.next c.args.feed) (one_list c.args.datagram.now inv.0 contents mine is)
+    subst (λ xs. IsDelivery c.args.settings.now c.args.last c.args.next c.args.feed xs (Deliver c.args.feed d.admitted d.outcomes d.other)) (one_list c.args.datagram.now inv.0 contents mine is)
+    (held c.args.settings.now c.args.last c.args.next c.args.datagram.now c.loop-from.from c.loop-from.delivery inv.0 inv.1 c.args.feed)
 
 pub returns-clause-refuses : goal.returns-clause-refuses
 returns-clause-refuses c = λ m fault.

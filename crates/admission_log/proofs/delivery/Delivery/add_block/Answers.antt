@@ -5,7 +5,7 @@ use Rattle.cat034_in.specs.Services.{services_of}
 use Rattle.cat048_in.specs.Reports.{reports_of}
 use Rattle.admission_log.specs.Messages.{report, service}
 use Rattle.admission_log.specs.Brought.{BringsMessages}
-use Rattle.admission_log.proofs.Contents.{records_content, other_content, brings_messages}
+use Rattle.admission_log.proofs.Contents.{records_content, other_content, brings_messages, brings_other}
 use Rattle.admission_log.proofs.delivery.Delivery.add_block.Goals as goal
 
 pub returns-in_ok-add_services-in-34-clause-read :
@@ -33,4 +33,4 @@ pub returns-in_default-clause-read : goal.returns-in_default-clause-read
 returns-in_default-clause-read c =
     let block = c.args.block.now in
     let content = other_content block (λ e. search rules) (λ e. search rules) c.requires.is_block in
-    (other block.cat block.body.now, content.0, content.1, (record { next = omega arith; admitted = sym (append-nil _); outcomes = sym (append-nil _); limit = λ h. h }, omega arith))
+    (other block.cat block.body.now, content.0, content.1, brings_other c.args.settings.now c.args.last block.cat block.body.now c.args.self.now _ (record { next = omega arith; admitted = sym (append-nil _); outcomes = sym (append-nil _); limit = λ h. h }) (omega arith))
