@@ -8,6 +8,7 @@ use Rattle.std.specs.Option.{ForSome, option_map}
 use Rattle.std.specs.List.{AllByRecursion, filter_map, cons_option, range_with_len}
 use Rattle.std.specs.List.Sorted.{IsStrictlySortedBy}
 use Rattle.std.proofs.lemmas.Option.{none-some, same_Some}
+use Rattle.trk_base.specs.Numbers.{slot_of}
 use Rattle.trk_base.specs.Keys.{key_cmp}
 use Rattle.trk_base.specs.KeyOrder.{key_cmp_total, key_cmp_exact}
 use Rattle.plot_geometry.specs.Plots.{PlanePlot}
@@ -19,7 +20,10 @@ use Rattle.admission_log.specs.declared.settings.Settings.{Settings}
 use Rattle.admission_log.specs.declared.events.Admitted.{Admitted}
 use Rattle.admission_log.specs.Histories.{History, last_of, admitted_of, next_of}
 use Rattle.admission_log.specs.Legality.{IsLegal}
-use Rattle.admission_log.specs.Plots.{key_of, plane_of, is_closed, closed_plots, put, in_rising_key, plots_of}
+use Rattle.admission_log.specs.declared.entries.Entry.{Entry}
+use Rattle.admission_log.specs.Entries.{key_of, entries_of}
+use Rattle.admission_log.specs.Biases.{radar_among}
+use Rattle.admission_log.specs.Plots.{plane_among, is_over, plot_over, plots_over, put, in_rising_key, plots_of}
 use Rattle.admission_log.proofs.Rising.{AreNotBelow, Rises, all_rise}
 use Rattle.admission_log.proofs.Arrivals.{arrivals_count}
 
@@ -99,19 +103,21 @@ key_in_plane : (a : Admitted) (o : Option RadarSettings) → ForSome (option_map
 key_in_plane a None = λ p e. absurd (none-some p e)
 key_in_plane a (Some radar) = λ p e. subst (λ q. q.key ≡ key_of a) (same_Some (plane_plot radar a.plot (key_of a)) p e) (key-plane_plot radar a.plot (key_of a))
 
-own_arrivals : (settings : Settings) (last n m : ℕ) (admitted : List Admitted) → map (λ a. a.arrival) admitted ≡ range_with_len n m → OwnFrom n (filter_map (plane_of settings) (filter (is_closed last) admitted))
-own_arrivals settings last n m [] e = (tt, tt)
-own_arrivals settings last n zero (a ∷ more) e = absurd (cc)
-own_arrivals settings last n (suc m) (a ∷ more) e =
+key_over : (settings : Settings) (entries : List Entry) (last : ℕ) (a : Admitted) → ForSome (plot_over settings entries last a) (λ p. p.key ≡ key_of a)
+key_over settings entries last a = elim (is_over last a) as (λ b. ForSome (cond b (plane_among settings entries a) None) (λ p. p.key ≡ key_of a)) [
+  | true ↦ key_in_plane a (radar_among settings entries a.radar (slot_of a.time))
+  | false ↦ λ p e. absurd (none-some p e)
+]
+
+own_arrivals : (settings : Settings) (entries : List Entry) (last n m : ℕ) (admitted : List Admitted) → map (λ a. a.arrival) admitted ≡ range_with_len n m → OwnFrom n (filter_map (plot_over settings entries last) admitted)
+own_arrivals settings entries last n m [] e = (tt, tt)
+own_arrivals settings entries last n zero (a ∷ more) e = absurd (cc)
+own_arrivals settings entries last n (suc m) (a ∷ more) e =
     let at : a.arrival ≡ n = cc in
     let rest : map (λ a. a.arrival) more ≡ range_with_len (n + 1) m = cc in
-    let own = own_arrivals settings last (n + 1) m more rest in
-    elim (is_closed last a) as (λ b. OwnFrom n (filter_map (plane_of settings) (cond b (a ∷ filter (is_closed last) more) (filter (is_closed last) more)))) [
-      | true ↦ add n (plane_of settings a) (filter_map (plane_of settings) (filter (is_closed last) more)) (λ p e. ap (λ k. k.arrival) (key_in_plane a (slice_get settings.radars a.radar) p e) ∙ at) own
-      | false ↦ (lower n (filter_map (plane_of settings) (filter (is_closed last) more)) own.0, own.1)
-    ]
+    add n (plot_over settings entries last a) (filter_map (plot_over settings entries last) more) (λ p e. ap (λ k. k.arrival) (key_over settings entries last a p e) ∙ at) (own_arrivals settings entries last (n + 1) m more rest)
 
 pub keys_rise : (settings : Settings) (log : History) → IsLegal settings log → IsStrictlySortedBy key_cmp (map (λ p. p.key) (plots_of settings log))
 keys_rise settings log legal =
-    let plots = closed_plots settings log in
-    strictly (in_rising_key plots) (all_rise plots) (all_differ plots (own_arrivals settings (last_of log) 0 (next_of log) (admitted_of log) (arrivals_count settings log legal)).1)
+    let plots = plots_over settings log in
+    strictly (in_rising_key plots) (all_rise plots) (all_differ plots (own_arrivals settings (entries_of log) (last_of log) 0 (next_of log) (admitted_of log) (arrivals_count settings log legal)).1)

@@ -6,6 +6,8 @@ pub mod Contents
 pub mod Reading
 pub mod Sound
 pub mod Rising
+pub mod Entering
+pub mod Changing
 pub mod Prefixes
 pub mod Arrivals
 pub mod Taken

@@ -4,6 +4,8 @@ use Rattle.std.specs.Prelude.{All, IsSomeAnd, slice_get}
 use Rattle.std.specs.Option.{option_map}
 use Rattle.std.proofs.lemmas.List.Elements.{All-nil, All-append, All-weaker}
 use Rattle.plot_geometry.specs.declared.radars.RadarSettings.{RadarSettings}
+use Rattle.trk_base.specs.Numbers.{slot_of}
+use Rattle.plot_geometry.specs.Biases.{bias_of, biased}
 use Rattle.plot_geometry.specs.PlanePlots.{plane_plot}
 use Rattle.plot_geometry.proofs.PlaneLaws.{key-plane_plot}
 use Rattle.admission_log.specs.declared.settings.Settings.{Settings}
@@ -13,7 +15,9 @@ use Rattle.admission_log.specs.declared.events.Event.TheVariants.{Deliver, Tick,
 use Rattle.admission_log.specs.Sources.{HasSource}
 use Rattle.admission_log.specs.Histories.{History, appended, admitted_in, admitted_of, last_of, high_at}
 use Rattle.admission_log.specs.Legality.{IsLegal, IsLegalEvent, WasOpen}
-use Rattle.admission_log.specs.Plots.{key_of, plane_of}
+use Rattle.admission_log.specs.Entries.{key_of, entries_of}
+use Rattle.admission_log.specs.Biases.{bias_among}
+use Rattle.admission_log.specs.Plots.{plane_of}
 use Rattle.admission_log.proofs.Radars.{radar_found, found_within}
 use Rattle.admission_log.proofs.Growing.{admitted-appended}
 use Rattle.admission_log.proofs.Prefixes.{last_grows, by_events}
@@ -50,11 +54,11 @@ all_known settings log legal = All-weaker (WasOpen settings (last_of log)) (λ a
 pub none_ahead : (settings : Settings) (log : History) → IsLegal settings log → All (λ a. a.time ≤ high_at (last_of log)) (admitted_of log)
 none_ahead settings log legal = All-weaker (WasOpen settings (last_of log)) (λ a. a.time ≤ high_at (last_of log)) (λ a h. omega (arith, h.earlier, h.legal.not_ahead)) (admitted_of log) (all_open settings log legal)
 
-plane_at : (a : Admitted) (sac sic : ℕ) (o : Option RadarSettings) → IsSomeAnd o (HasSource sac sic) → IsSomeAnd (option_map (λ radar. plane_plot radar a.plot (key_of a)) o) (λ plot. plot.key ≡ key_of a)
-plane_at a sac sic None h = h
-plane_at a sac sic (Some radar) h = key-plane_plot radar a.plot (key_of a)
+plane_at : (a : Admitted) (f : RadarSettings → RadarSettings) (sac sic : ℕ) (o : Option RadarSettings) → IsSomeAnd o (HasSource sac sic) → IsSomeAnd (option_map (λ radar. plane_plot radar a.plot (key_of a)) (option_map f o)) (λ plot. plot.key ≡ key_of a)
+plane_at a f sac sic None h = h
+plane_at a f sac sic (Some radar) h = key-plane_plot (f radar) a.plot (key_of a)
 
-pub all_in_plane : (settings : Settings) (log : History) → IsLegal settings log → All (λ a. IsSomeAnd (plane_of settings a) (λ plot. plot.key ≡ key_of a)) (admitted_of log)
+pub all_in_plane : (settings : Settings) (log : History) → IsLegal settings log → All (λ a. IsSomeAnd (plane_of settings log a) (λ plot. plot.key ≡ key_of a)) (admitted_of log)
 all_in_plane settings log legal =
-    All-weaker (WasOpen settings (last_of log)) (λ a. IsSomeAnd (plane_of settings a) (λ plot. plot.key ≡ key_of a))
-    (λ a h. plane_at a a.plot.sac a.plot.sic (slice_get settings.radars a.radar) (radar_found settings.radars a.plot.sac a.plot.sic a.radar h.legal.radar)) (admitted_of log) (all_open settings log legal)
+    All-weaker (WasOpen settings (last_of log)) (λ a. IsSomeAnd (plane_of settings log a) (λ plot. plot.key ≡ key_of a))
+    (λ a h. plane_at a (λ r. biased r (bias_among (entries_of log) (bias_of r) a.radar (slot_of a.time))) a.plot.sac a.plot.sic (slice_get settings.radars a.radar) (radar_found settings.radars a.plot.sac a.plot.sic a.radar h.legal.radar)) (admitted_of log) (all_open settings log legal)

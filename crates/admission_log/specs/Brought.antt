@@ -13,7 +13,7 @@ use Rattle.admission_log.specs.declared.events.Outcome.{Outcome}
 use Rattle.admission_log.specs.declared.delivery.Delivery.{Delivery}
 use Rattle.admission_log.specs.Messages.{Message, messages_in, other_count}
 use Rattle.admission_log.specs.Outcomes.{outcome_of}
-use Rattle.admission_log.specs.Histories.{count_limit}
+use Rattle.trk_base.specs.Limits.{count_limit}
 use Rattle.admission_log.specs.Deliveries.{admitted_by, admitted_count, AreJudged}
 
 -- the new one has what was judged besides

@@ -1,14 +1,10 @@
 -- A log as a list of events, and the moments that it has come to.
-use Rattle.std.specs.Prelude.{ℕ, ◌+◌, ◌-◌, ◌^◌, ◌++◌, [], ◌∷◌, max, List, length, fold, Option, Some, None, take}
+use Rattle.std.specs.Prelude.{ℕ, ◌+◌, ◌-◌, ◌++◌, [], ◌∷◌, max, List, length, fold, Option, Some, None, take}
 use Rattle.std.specs.List.{flat_map, filter_map}
 use Rattle.trk_base.specs.Numbers.{slot_of}
 use Rattle.admission_log.specs.declared.events.Admitted.{Admitted}
 use Rattle.admission_log.specs.declared.events.Event.{Event}
 use Rattle.admission_log.specs.declared.events.Event.TheVariants.{Deliver, Tick, Publish}
-
--- what each arrival, each index of an event and each edition's number is below
-abbrev pub count_limit : ℕ
-count_limit = 2 ^ 62
 
 -- a start, and the events since
 pub record History : Type 0 where

@@ -7,4 +7,7 @@ pub mod Brought
 pub mod Changes
 pub mod Legality
 pub mod Logs
+pub mod Entries
+pub mod EntryOrder
+pub mod Biases
 pub mod Plots

@@ -1,7 +1,8 @@
 -- What a log keeps beside its events.
 use Rattle.std.specs.Prelude.{◌≡◌, ◌<◌, ◌≤◌, ◌^◌, length}
 use Rattle.admission_log.specs.declared.log.Log.TheInside.{Inside}
-use Rattle.admission_log.specs.Histories.{History, last_of, next_of, published_of, cut_of, count_limit}
+use Rattle.trk_base.specs.Limits.{count_limit}
+use Rattle.admission_log.specs.Histories.{History, last_of, next_of, published_of, cut_of}
 
 abbrev pub history : Inside → History
 history log = record { start = log.start; events = log.events }

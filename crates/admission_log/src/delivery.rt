@@ -3,17 +3,17 @@ ghost use Rattle.std.specs.Prelude.{◌≡◌, ◌+◌, ◌<◌, ◌≤◌, ◌^
 ghost use Rattle.asterix_frame.specs.declared.block.Malformed.{Malformed};
 ghost use Rattle.asterix_frame.specs.Answers.{IfMalformed, Reads, Refuses};
 ghost use Rattle.asterix_frame.specs.Datagrams.{Content, IsDatagram, DatagramFault};
-ghost use Rattle.admission_log.specs.Histories.{admitted_in, count_limit};
+ghost use Rattle.trk_base.specs.Limits.{count_limit};
+ghost use Rattle.admission_log.specs.Histories.{admitted_in};
 ghost use Rattle.admission_log.specs.Deliveries.{IsDelivery};
 
 use crate::judging::{admission, counted_radar};
-use crate::log::COUNT_LIMIT;
 use crate::{AdmitError, Admitted, Event, Outcome, Settings};
 use asterix_frame::{Block, first_block};
 use cat034_in::{Service, read034};
 use cat048_in::{Report, read048};
 use std::alloc::Global;
-use trk_base::{NoMemory, Sequence};
+use trk_base::{COUNT_LIMIT, NoMemory, Sequence};
 
 // What a datagram has brought so far.
 #[derive(Drop)]

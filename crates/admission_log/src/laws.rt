@@ -11,7 +11,8 @@ ghost use Rattle.admission_log.specs.declared.events.Event.{Event};
 ghost use Rattle.admission_log.specs.Deliveries.{IsDelivery};
 ghost use Rattle.admission_log.specs.Histories.{History, first, last_of, admitted_of, next_of, high_at};
 ghost use Rattle.admission_log.specs.Legality.{IsLegal, WasOpen};
-ghost use Rattle.admission_log.specs.Plots.{in_rising_key, key_of, plane_of, plots_of};
+ghost use Rattle.admission_log.specs.Entries.{key_of};
+ghost use Rattle.admission_log.specs.Plots.{in_rising_key, plane_of, plots_of};
 
 /// Plots have exactly one order in rising key: whoever sorts them gets it.
 pub fn one_rising_order()
@@ -45,7 +46,7 @@ pub fn admitted_plots()
     ensures was_open { (settings : Settings) (log : History) → IsLegal settings log → All (WasOpen settings (last_of log)) (admitted_of log) }
     ensures radar { (settings : Settings) (log : History) → IsLegal settings log → All (λ a. a.radar < length settings.radars) (admitted_of log) }
     ensures not_ahead { (settings : Settings) (log : History) → IsLegal settings log → All (λ a. a.time ≤ high_at (last_of log)) (admitted_of log) }
-    ensures plane { (settings : Settings) (log : History) → IsLegal settings log → All (λ a. IsSomeAnd (plane_of settings a) (λ plot. plot.key ≡ key_of a)) (admitted_of log) }
+    ensures plane { (settings : Settings) (log : History) → IsLegal settings log → All (λ a. IsSomeAnd (plane_of settings log a) (λ plot. plot.key ≡ key_of a)) (admitted_of log) }
 {}
 
 /// The keys of a legal log's plots strictly rise, so no two are the same.

@@ -3,19 +3,23 @@
 #![tactic(auto)]
 
 mod delivery;
+mod entries;
 mod events;
 mod judging;
 mod laws;
 mod log;
+mod plots;
 mod settings;
 #[cfg(test)]
 mod tests;
 
 pub use delivery::deliver;
+pub use entries::Entry;
 pub use events::{AdmitError, Admitted, BiasError, Event, Outcome, Receipt, TickError};
 pub use judging::{AHEAD_LIMIT, judge, judge_bias};
 pub use laws::{
     admitted_plots, arrivals_count, keys_rise, legal_prefixes, one_delivery, one_rising_order,
 };
-pub use log::{COUNT_LIMIT, Log};
+pub use log::Log;
+pub use plots::plots_of;
 pub use settings::{RADAR_LIMIT, Settings, radar_of};

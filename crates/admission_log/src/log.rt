@@ -1,11 +1,12 @@
 // The log, and the calls that add to it.
 ghost use Rattle.std.specs.Prelude.{◌≡◌, ◌+◌, ◌<◌, ◌≤◌, ◌^◌, ℕ, List, [], length, Err, IfErr, IfOk, OnOk, OnErr};
+ghost use Rattle.trk_base.specs.Limits.{count_limit};
 ghost use Rattle.asterix_frame.specs.declared.block.Malformed.{Malformed};
 ghost use Rattle.asterix_frame.specs.Answers.{IfMalformed, Reads, Refuses};
 ghost use Rattle.asterix_frame.specs.Datagrams.{Content, IsDatagram, DatagramFault};
 ghost use Rattle.admission_log.specs.declared.settings.Settings.{Settings};
 ghost use Rattle.admission_log.specs.declared.events.Event.TheVariants as events;
-ghost use Rattle.admission_log.specs.Histories.{appended, last_of, next_of, published_of, cut_of, admitted_in, count_limit};
+ghost use Rattle.admission_log.specs.Histories.{appended, last_of, next_of, published_of, cut_of, admitted_in};
 ghost use Rattle.admission_log.specs.Deliveries.{Delivers, outcomes_in};
 ghost use Rattle.admission_log.specs.Changes.{IsOpenChange, IsRefusal};
 ghost use Rattle.admission_log.specs.Legality.{IsLegal};
@@ -16,11 +17,7 @@ use crate::{
 use plot_geometry::Bias;
 use std::alloc::Global;
 use std::marker::Model;
-use trk_base::{NoMemory, Sequence, TryCopy};
-
-/// What each index in a log, each arrival and each edition's number is below. Where one would reach
-/// it, memory is wanting.
-pub const COUNT_LIMIT: u64 = 1 << 62;
+use trk_base::{COUNT_LIMIT, NoMemory, Sequence, TryCopy};
 
 /// The one log: where it starts, and the events since. What is asked of it at each event is kept
 /// beside them, so no call goes over the events.
