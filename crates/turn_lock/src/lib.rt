@@ -3,8 +3,8 @@
 //! `docs/CONCURRENCY.md` says in plain words what a turn does, step by step, and what is proved.
 #![tactic(auto)]
 
-mod board;
 mod lock;
+mod lock_table;
 mod logged;
 mod plays;
 mod rule;

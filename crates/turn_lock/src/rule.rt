@@ -35,7 +35,7 @@ pub enum Stage<E> {
 pub struct View<E, B> {
     /// The beginning of the history that its turns have seen.
     pub seen: LinkedList<E>,
-    /// The places in the history of the events that its turns have added.
+    /// The indices in the history of the events that its turns have added.
     pub mine: LinkedList<u64>,
     /// The last number that it was told as published.
     pub told: u64,
