@@ -11,5 +11,5 @@ mod rule;
 #[cfg(test)]
 mod tests;
 
-pub use lock::{MAX_SEATS, Turn, TurnLock};
+pub use lock::{SEAT_LIMIT, Turn, TurnLock};
 pub use logged::Logged;

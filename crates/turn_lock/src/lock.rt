@@ -1,4 +1,4 @@
-//! The lock and its turns.
+// The lock and its turns.
 ghost use Rattle.std.specs.Prelude.{◌≡◌};
 
 use crate::lock_table::{LockSeat, LockTable};
@@ -9,12 +9,13 @@ mod calls;
 mod seats;
 
 /// The most seats that a lock may have.
-pub const MAX_SEATS: u32 = 64;
+pub const SEAT_LIMIT: u32 = 64;
 
 /// A ticket lock round a value that stands for a list of events, the history.
 ///
-/// After the ticket lock of Mellor-Crummey and Scott, "Algorithms for scalable synchronization on shared-memory
-/// multiprocessors" (1991). Threads share it by reference. Where it is dropped, the value is dropped with it.
+/// After the ticket lock of Mellor-Crummey and Scott, "Algorithms for scalable synchronization on
+/// shared-memory multiprocessors" (1991). Threads share it by reference. Where it is dropped, the
+/// value is dropped with it.
 #[derive(Drop)]
 pub struct TurnLock<V: Logged> {
     lock_table: LockTable<V>,
@@ -33,8 +34,8 @@ impl<V: Logged> Model for TurnLock<V> {
 
 /// A seat at the lock. Who has it may take turns, on any thread.
 ///
-/// It has no bytes. Contracts see what it knows of the history: a `Token`. A lock that lost a turn can be dropped, and
-/// not closed.
+/// It has no bytes. Contracts see what it knows of the history: a `Token`. A lock that lost a turn
+/// can be dropped, and not closed.
 #[derive(Drop)]
 pub struct Turn<V: Logged> {
     seat: LockSeat<V>,

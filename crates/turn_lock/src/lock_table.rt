@@ -1,4 +1,4 @@
-//! The table under the lock, with its four words and its one slot.
+// The table under the lock, with its four words and its one slot.
 ghost use Rattle.std.specs.Prelude.{◌≡◌};
 
 use crate::logged::Logged;

@@ -1,4 +1,4 @@
-//! The lock round a diary, whose entries are its events.
+// The lock round a diary, whose entries are its events.
 ghost use Rattle.std.specs.Prelude.{◌≡◌, ◌+◌, [], ◌∷◌, ◌++◌, length, count_by, IfSome};
 ghost use Rattle.turn_lock.specs.Steps.{Adds};
 ghost use Rattle.turn_lock.specs.Turns.{newcomer, IsTurnOf};
@@ -190,7 +190,8 @@ fn publish_all<W: Wait>(
     (head, true)
 }
 
-// Asks for the published number again and again, with no leave to wait, and answers whether it never fell.
+// Asks for the published number again and again, with no leave to wait, and answers whether it
+// never fell.
 fn watch(lock: &TurnLock<Diary>, mut turn: Turn<Diary>) -> (Turn<Diary>, bool)
     requires own { IsTurnOf lock.now turn }
     ensures own { IsTurnOf lock.now result.0 }

@@ -1,4 +1,4 @@
-//! The turns of a lock's seats, as they are made and as they come back.
+// The turns of a lock's seats, as they are made and as they come back.
 ghost use Rattle.std.specs.Prelude.{◌≡◌, ℕ, ◌<◌, ◌≤◌, [], length, slice_get, vec_len, vec_capacity, All, EachIndex, Some};
 ghost use Rattle.turn_lock.specs.declared.rule.Stage.TheVariants.{Idle};
 ghost use Rattle.turn_lock.specs.Rule.{beginner};

@@ -1,4 +1,4 @@
-//! How the table is opened and closed, and how its seats are made and joined.
+// How the table is opened and closed, and how its seats are made and joined.
 ghost use Rattle.std.specs.Prelude.{◌≡◌, ℕ, ◌<◌, [], ◌∷◌, List, length, true, IfOk};
 ghost use Rattle.turn_lock.specs.declared.rule.Stage.TheVariants.{Idle};
 ghost use Rattle.turn_lock.specs.Lists.{is_member};

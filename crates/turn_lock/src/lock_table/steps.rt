@@ -1,4 +1,4 @@
-//! The steps of a turn on the table.
+// The steps of a turn on the table.
 ghost use Rattle.std.specs.Prelude.{◌≡◌, [], ◌∷◌, ◌+◌, ◌<◌, ◌≤◌, ◌^◌, List, length, count_by, Some};
 ghost use Rattle.atomic_table.specs.Table.{rest};
 ghost use Rattle.turn_lock.specs.declared.rule.Stage.TheVariants.{Idle, Waiting, Holding, Raising, Committed};

@@ -1,4 +1,4 @@
-//! A whole turn.
+// A whole turn.
 ghost use Rattle.std.specs.Prelude.{◌≡◌, [], ◌∷◌, ◌+◌, ◌<◌, ◌^◌, List, length, count_by, Some};
 ghost use Rattle.std.specs.Fn.{FnOnceReturnsAtMut, FnOnceTakesAtMut};
 ghost use Rattle.turn_lock.specs.declared.rule.Stage.TheVariants.{Idle, Holding};
