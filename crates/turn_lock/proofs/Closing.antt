@@ -38,7 +38,7 @@ module _ {S E B : Type 0} (events : S → List E) (is_publish : E → Bool) (bas
       absurd (true≢false (sym a.holds ∙ (ap (λ (z : V). is_out z.stage) e ∙ ap is_out rests)))) r.slot
 
   one : (s : State S V) (r : Rule s) (id : ℕ) (v : V) → get_elem? s.views id ≡ some v → ((n : ℕ) → n < seats → is_member n v.numbers ≡ true) → (p : ℕ) → p < length r.course.history → count_of p v.mine ≡ 1
-  one s r id v here all p l = let m = r.each_place p l in let i : ℕ = r.course.place_seat p in
+  one s r id v here all p l = let m = r.each_index p l in let i : ℕ = r.course.index_seat p in
       let busy = not_spent m.0 (r.each_seat i m.0 m.1).spent (λ z. true≢false (sym m.2 ∙ ap (is_member p) z.0)) in
       let e = same_view s r id v here all i m.0 m.1 busy in let few = (r.each_seat id v here).made_once p in
       let some_there : 0 < count_of p v.mine = count_of_member p v.mine (ap (λ (z : V). is_member p z.mine) (sym e) ∙ m.2) in omega arith

@@ -43,7 +43,7 @@ module _ {S E B : Type 0} (events : S → List E) (is_publish : E → Bool) (bas
   abbrev Rule : State S V → Type 0
   Rule = Kept events is_publish base b seats
 
-  -- no number and no place is in two views
+  -- no number and no index is in two views
   once_in_both : (n : ℕ) (xs ys : List ℕ) → count_of n xs ≤ 1 → count_of n ys ≤ 1 → (is_member n xs ≡ true → is_member n ys ≡ true → ⊥) → count_of n (xs ++ ys) ≤ 1
   once_in_both n xs ys few_left few_right apart = let t = count_of-append n xs ys in dite (ℕ_discrete (count_of n xs) 0) (λ z. omega arith)
       (λ nx. dite (ℕ_discrete (count_of n ys) 0) (λ z. omega arith) (λ ny. absurd (apart (is_member_counted n xs (omega arith)) (is_member_counted n ys (omega arith)))))
@@ -52,7 +52,7 @@ module _ {S E B : Type 0} (events : S → List E) (is_publish : E → Bool) (bas
   joins id v other w vi wi some_there s r here apart there = let c : Course E = r.course in let u : V = both v w in let vs : List V = set s.views id u in let ws : List V = set vs other spent in let f = r.each_seat id v here in
       let was : get_elem? s.views other ≡ some w = ⊎_elim (λ (t : (other ≡ id) × (u ≡ w)). absurd (apart t.0)) (λ (t : (other ≢ id) × (get_elem? s.views other ≡ some w)). t.1) (at_set s.views id other u w there) in
       let g = r.each_seat other w was in let two : id ≢ other = λ e. apart (sym e) in
-      let d : Course E = record c { number_seat = λ n. redirect other id (c.number_seat n); place_seat = λ p. redirect other id (c.place_seat p) } in let G : ℕ → V → Type 0 = Fits is_publish b seats d in
+      let d : Course E = record c { number_seat = λ n. redirect other id (c.number_seat n); index_seat = λ p. redirect other id (c.index_seat p) } in let G : ℕ → V → Type 0 = Fits is_publish b seats d in
       let to : (j k : ℕ) → j ≡ k → k ≢ other → redirect other id j ≡ k = λ j k e n. redirect_elim other id j (λ z. z ≡ k) (λ q. absurd (n (sym e ∙ q))) (λ _. e) in
       let to_me : (j : ℕ) → j ≡ other → redirect other id j ≡ id = λ j e. redirect_elim other id j (λ z. z ≡ id) (λ _. refl) (λ n. absurd (n e)) in
       let v_raised : count_by is_publish v.seen ≤ c.published + unraised v.stage = f.raised in let w_raised : count_by is_publish w.seen ≤ c.published + unraised w.stage = g.raised in
@@ -94,7 +94,7 @@ module _ {S E B : Type 0} (events : S → List E) (is_publish : E → Bool) (bas
               begins = choice (is_member 0 w.numbers) w.seen v.seen (λ l. Begins l c.history) (λ _. g.begins) (λ _. f.begins);
               head = λ h. choice (is_member 0 w.numbers) w.seen v.seen (λ l. count_by is_publish l ≡ count_by is_publish c.history) g.head
                   (λ no_head. f.head (⊎_elim (λ a. a) (λ a. absurd (true≢false (sym a ∙ no_head))) (is_member-append 0 v.numbers w.numbers h)));
-              made = λ p h. ⊎_elim (λ a. let q = f.made p a in (q.0, to (c.place_seat p) id q.1 two)) (λ a. let q = g.made p a in (q.0, to_me (c.place_seat p) q.1)) (is_member-append p v.mine w.mine h);
+              made = λ p h. ⊎_elim (λ a. let q = f.made p a in (q.0, to (c.index_seat p) id q.1 two)) (λ a. let q = g.made p a in (q.0, to_me (c.index_seat p) q.1)) (is_member-append p v.mine w.mine h);
               made_once = λ p. once_in_both p v.mine w.mine (f.made_once p) (g.made_once p) (λ a m. two (sym (f.made p a).1 ∙ (g.made p m).1));
               told = f.told;
               raised = choice (is_member 0 w.numbers) w.seen v.seen (λ l. count_by is_publish l ≤ c.published + unraised v.stage) (λ _. omega arith) (λ _. v_raised);
@@ -105,13 +105,13 @@ module _ {S E B : Type 0} (events : S → List E) (is_publish : E → Bool) (bas
               history = sym (append-nil c.history);
               published = omega arith;
               numbers = λ n _ e. to (c.number_seat n) i e no2;
-              places = λ p _ _ e. to (c.place_seat p) i e no2;
+              indices = λ p _ _ e. to (c.index_seat p) i e no2;
               stands = stays c i y.seen d (λ q lo has. (has, lo)) y.stage (λ _. (refl, refl)) h.stands;
               head = λ _. refl;
             }) j x e nj);
         each_ticket = λ t lo hi. kept (λ x. ticket_of x.stage ≡ some t) (c.ticket_seat t) (λ q. some-ne-none t (sym q ∙ ap ticket_of vi)) (λ q. some-ne-none t (sym q ∙ ap ticket_of wi)) (r.each_ticket t lo hi);
         each_number = λ n l. moved (λ x. is_member n x.numbers ≡ true) (c.number_seat n) (λ q. is_member-left n v.numbers w.numbers q) (λ q. is_member-right n v.numbers w.numbers q) (r.each_number n l);
-        each_place = λ p l. moved (λ x. is_member p x.mine ≡ true) (c.place_seat p) (λ q. is_member-left p v.mine w.mine q) (λ q. is_member-right p v.mine w.mine q) (r.each_place p l);
+        each_index = λ p l. moved (λ x. is_member p x.mine ≡ true) (c.index_seat p) (λ q. is_member-left p v.mine w.mine q) (λ q. is_member-right p v.mine w.mine q) (r.each_index p l);
         slot = ⊎_elim (λ (h : Home events is_publish base b seats c s). inl record {
           value = h.value;
           at_home = h.at_home;

@@ -16,7 +16,7 @@ use Rattle.turn_lock.specs.declared.rule.Stage.{Stage}
 use Rattle.turn_lock.specs.declared.rule.Stage.TheVariants.{Idle, Waiting, Holding, Raising, Committed}
 use Rattle.turn_lock.specs.Lists.{is_member, count_of, Begins}
 use Rattle.turn_lock.specs.Rule.{is_out, ticket_of, unraised, Course, HasTicket, Stands, Fits, SeatWith, Home, Away, Kept}
-use Rattle.turn_lock.specs.Steps.{with_stage, new_place, Adds, stage_after, view_after, drew, looked, committed, raised, passed, refreshed}
+use Rattle.turn_lock.specs.Steps.{with_stage, new_index, Adds, stage_after, view_after, drew, looked, committed, raised, passed, refreshed}
 use Rattle.turn_lock.proofs.Lists.{put_at, put_elim, set_there, all_set, seat_set, begins_append, each_more, count_by-append, is_member-append, is_member-left, is_member-right, is_member_one, is_member_first, count_of-append, is_member_counted, count_of_one, count_of_other}
 
 some_same : {A : Type 0} {a b : A} → Path (Option A) (Some a) (Some b) → a ≡ b
@@ -74,23 +74,23 @@ module _ {E : Type 0} (is_publish : E → Bool) (t : ℕ) (found left : List E) 
       (λ e. let z : unraised (stage_after is_publish t found left) ≡ 0 = ap unraised (after_same e) in omega arith)
       (λ n. let z : unraised (stage_after is_publish t found left) ≡ 1 = ap unraised (after_more n) in omega arith)
 
--- a place that was in none of these is added at most once
-once_more : (p : ℕ) (mine : List ℕ) (old new : ℕ) → count_of p mine ≤ 1 → (is_member p mine ≡ true → p < old) → count_of p (mine ++ new_place old new) ≤ 1
+-- an index that was in none of these is added at most once
+once_more : (p : ℕ) (mine : List ℕ) (old new : ℕ) → count_of p mine ≤ 1 → (is_member p mine ≡ true → p < old) → count_of p (mine ++ new_index old new) ≤ 1
 once_more p mine old new few low = go (ℕ_discrete old new) (dite (ℕ_discrete (count_of p mine) 0) (λ z. inl z) (λ n. inr (low (is_member_counted p mine (omega arith)))))
   where
-    go : Dec (old ≡ new) → (count_of p mine ≡ 0) ⊎ (p < old) → count_of p (mine ++ new_place old new) ≤ 1
-    go (yes e) h = let g : count_of p (new_place old new) ≡ 0 = ap (λ z. count_of p (if z then [] else old ∷ [])) (eq-eqb old new e) in let t = count_of-append p mine (new_place old new) in omega arith
-    go (no n) (inl z) = let g : count_of p (new_place old new) ≡ count_of p (old ∷ []) = ap (λ z. count_of p (if z then [] else old ∷ [])) (ne_eqb old new n) in let o = count_of_one p old in let t = count_of-append p mine (new_place old new) in omega arith
-    go (no n) (inr l) = let g : count_of p (new_place old new) ≡ count_of p (old ∷ []) = ap (λ z. count_of p (if z then [] else old ∷ [])) (ne_eqb old new n) in
-        let o : count_of p (old ∷ []) ≡ 0 = count_of_other p old (λ e. omega arith) in let t = count_of-append p mine (new_place old new) in omega arith
+    go : Dec (old ≡ new) → (count_of p mine ≡ 0) ⊎ (p < old) → count_of p (mine ++ new_index old new) ≤ 1
+    go (yes e) h = let g : count_of p (new_index old new) ≡ 0 = ap (λ z. count_of p (if z then [] else old ∷ [])) (eq-eqb old new e) in let t = count_of-append p mine (new_index old new) in omega arith
+    go (no n) (inl z) = let g : count_of p (new_index old new) ≡ count_of p (old ∷ []) = ap (λ z. count_of p (if z then [] else old ∷ [])) (ne_eqb old new n) in let o = count_of_one p old in let t = count_of-append p mine (new_index old new) in omega arith
+    go (no n) (inr l) = let g : count_of p (new_index old new) ≡ count_of p (old ∷ []) = ap (λ z. count_of p (if z then [] else old ∷ [])) (ne_eqb old new n) in
+        let o : count_of p (old ∷ []) ≡ 0 = count_of_other p old (λ e. omega arith) in let t = count_of-append p mine (new_index old new) in omega arith
 
-new_place_has : (p old new : ℕ) → is_member p (new_place old new) ≡ true → (p ≡ old) × (old ≢ new)
-new_place_has p old new h = dite (ℕ_discrete old new)
+new_index_has : (p old new : ℕ) → is_member p (new_index old new) ≡ true → (p ≡ old) × (old ≢ new)
+new_index_has p old new h = dite (ℕ_discrete old new)
     (λ e. absurd (true≢false (sym h ∙ ap (λ z. is_member p (if z then [] else old ∷ [])) (eq-eqb old new e))))
     (λ n. (is_member_one p old (sym (ap (λ z. is_member p (if z then [] else old ∷ [])) (ne_eqb old new n)) ∙ h), n))
 
-new_place_there : (old new : ℕ) → old ≢ new → is_member old (new_place old new) ≡ true
-new_place_there old new n = ap (λ z. is_member old (if z then [] else old ∷ [])) (ne_eqb old new n) ∙ is_member_first old old [] refl
+new_index_there : (old new : ℕ) → old ≢ new → is_member old (new_index old new) ≡ true
+new_index_there old new n = ap (λ z. is_member old (if z then [] else old ∷ [])) (ne_eqb old new n) ∙ is_member_first old old [] refl
 
 module _ {E B : Type 0} (is_publish : E → Bool) (b : B) (seats : ℕ) (c : Course E) (seat : ℕ) (v : View E B) where
   -- what a course that went on keeps of a seat's view
@@ -99,7 +99,7 @@ module _ {E B : Type 0} (is_publish : E → Bool) (b : B) (seats : ℕ) (c : Cou
     pub history : d.history ≡ c.history ++ added
     pub published : c.published ≤ d.published
     pub numbers : (n : ℕ) → is_member n v.numbers ≡ true → c.number_seat n ≡ seat → d.number_seat n ≡ seat
-    pub places : (p : ℕ) → p < length c.history → is_member p v.mine ≡ true → c.place_seat p ≡ seat → d.place_seat p ≡ seat
+    pub indices : (p : ℕ) → p < length c.history → is_member p v.mine ≡ true → c.index_seat p ≡ seat → d.index_seat p ≡ seat
     pub stands : Stands d seat v.seen v.stage
     pub head : is_member 0 v.numbers ≡ true → count_by is_publish added ≡ 0
 
@@ -113,7 +113,7 @@ module _ {E B : Type 0} (is_publish : E → Bool) (b : B) (seats : ℕ) (c : Cou
     begins = subst (Begins v.seen) (sym g.history) (begins_append v.seen c.history g.added f.begins);
     head = λ h. let was : count_by is_publish v.seen ≡ count_by is_publish c.history = f.head h in let none_more : count_by is_publish g.added ≡ 0 = g.head h in
         let sum : count_by is_publish d.history ≡ count_by is_publish c.history + count_by is_publish g.added = ap (count_by is_publish) g.history ∙ count_by-append is_publish c.history g.added in omega arith;
-    made = λ p h. let q = f.made p h in let low : p < length c.history = q.0 in (omega arith, g.places p q.0 h q.1);
+    made = λ p h. let q = f.made p h in let low : p < length c.history = q.0 in (omega arith, g.indices p q.0 h q.1);
     made_once = f.made_once;
     told = let low : v.told ≤ c.published = f.told in omega arith;
     raised = let low : count_by is_publish v.seen ≤ c.published + unraised v.stage = f.raised in omega arith;
@@ -138,14 +138,14 @@ module _ {E B : Type 0} (is_publish : E → Bool) (b : B) (seats : ℕ) (c : Cou
   }
 
   -- where nothing but tickets, the served one and the published number changed
-  pub restands : (d : Course E) → Fits is_publish b seats c seat v → d.history ≡ c.history → c.published ≤ d.published → ((n : ℕ) → d.number_seat n ≡ c.number_seat n) → ((p : ℕ) → d.place_seat p ≡ c.place_seat p)
+  pub restands : (d : Course E) → Fits is_publish b seats c seat v → d.history ≡ c.history → c.published ≤ d.published → ((n : ℕ) → d.number_seat n ≡ c.number_seat n) → ((p : ℕ) → d.index_seat p ≡ c.index_seat p)
       → Stands d seat v.seen v.stage → Fits is_publish b seats d seat v
-  restands d f same up numbers places stands = goes_on d f record {
+  restands d f same up numbers indices stands = goes_on d f record {
     added = [];
     history = same ∙ sym (append-nil c.history);
     published = up;
     numbers = λ n h e. numbers n ∙ e;
-    places = λ p l h e. places p ∙ e;
+    indices = λ p l h e. indices p ∙ e;
     stands = stands;
     head = λ _. refl;
   }
@@ -188,7 +188,7 @@ module _ {S E B : Type 0} (events : S → List E) (is_publish : E → Bool) (bas
             (λ e. (w, set_there s.views id me.0 w here, ap some (sym e)))
             (λ ne. seat_set s.views id me.0 w (λ v. ticket_of v.stage ≡ some t) here (λ q. absurd (some-ne-none t (sym q ∙ ap ticket_of idle))) (c.ticket_seat t) (r.each_ticket t lo (omega arith)));
         each_number = λ n l. seat_set s.views id me.0 w (λ v. is_member n v.numbers ≡ true) here (λ q. q) (c.number_seat n) (r.each_number n l);
-        each_place = λ p l. seat_set s.views id me.0 w (λ v. is_member p v.mine ≡ true) here (λ q. q) (c.place_seat p) (r.each_place p l);
+        each_index = λ p l. seat_set s.views id me.0 w (λ v. is_member p v.mine ≡ true) here (λ q. q) (c.index_seat p) (r.each_index p l);
         slot = ⊎_elim (λ (h : Home events is_publish base b seats c s). inl record {
           value = h.value;
           at_home = h.at_home;
@@ -248,7 +248,7 @@ module _ {S E B : Type 0} (events : S → List E) (is_publish : E → Bool) (bas
             (λ j d _ e. r.each_seat j d e);
         each_ticket = λ q lo up. seat_set s.views id me.0 w (λ v. ticket_of v.stage ≡ some q) here (λ e. sym (ap ticket_of is) ∙ e) (c.ticket_seat q) (r.each_ticket q lo up);
         each_number = λ n l. seat_set s.views id me.0 w (λ v. is_member n v.numbers ≡ true) here (λ q. q) (c.number_seat n) (r.each_number n l);
-        each_place = λ p l. seat_set s.views id me.0 w (λ v. is_member p v.mine ≡ true) here (λ q. q) (c.place_seat p) (r.each_place p l);
+        each_index = λ p l. seat_set s.views id me.0 w (λ v. is_member p v.mine ≡ true) here (λ q. q) (c.index_seat p) (r.each_index p l);
         slot = inr record {
           holder = w;
           holder_is = ap (get_elem? (set s.views id w)) (ap c.ticket_seat now ∙ k.0.1) ∙ set_there s.views id me.0 w here;
@@ -284,10 +284,10 @@ module _ {S E B : Type 0} (events : S → List E) (is_publish : E → Bool) (bas
       let st : Stage E = stage_after is_publish t found left in let w : V = view_after me.0 found left st in
       let was : left ≡ c.history ++ add.fresh = add.appended ∙ ap (λ l. l ++ add.fresh) k.2 in
       let size : length left ≡ length c.history + length add.fresh = ap length was ∙ length-append c.history add.fresh in let few : length add.fresh ≤ 1 = add.few in let old : length found ≡ length c.history = ap length k.2 in
-      let d : Course E = record c { history = left; place_seat = put_at c.place_seat (length c.history) id } in let held : c.ticket_seat c.serving ≡ id = ap c.ticket_seat k.1 ∙ k.0.1 in
+      let d : Course E = record c { history = left; index_seat = put_at c.index_seat (length c.history) id } in let held : c.ticket_seat c.serving ≡ id = ap c.ticket_seat k.1 ∙ k.0.1 in
       let level : c.published ≡ count_by is_publish found = let e = behind s r id me.0 here (ap is_out is) in let z : unraised me.0.stage ≡ 0 = ap unraised is in let q : count_by is_publish found ≡ count_by is_publish c.history = ap (count_by is_publish) k.2 in omega arith in
       let now_behind : c.published + unraised st ≡ count_by is_publish left = after_unraised is_publish t found left c.published add.fresh add.appended few level in
-      let older : (p q : ℕ) → p < length c.history → c.place_seat p ≡ q → d.place_seat p ≡ q = λ p q l m. put_elim c.place_seat (length c.history) id p (λ z. z ≡ q) (λ e. absurd (omega arith)) (λ _. m) in record {
+      let older : (p q : ℕ) → p < length c.history → c.index_seat p ≡ q → d.index_seat p ≡ q = λ p q l m. put_elim c.index_seat (length c.history) id p (λ z. z ≡ q) (λ e. absurd (omega arith)) (λ _. m) in record {
         course = d;
         words = ap (λ l. set l 2 n) r.words ∙ ap (λ (z : ℕ). c.ticket ∷ c.serving ∷ z ∷ c.published ∷ []) count;
         ahead = r.ahead;
@@ -301,9 +301,9 @@ module _ {S E B : Type 0} (events : S → List E) (is_publish : E → Bool) (bas
               begins = ([], sym (append-nil left));
               head = λ _. refl;
               made = λ p h. ⊎_elim (λ a. let m = f.made p a in let l : p < length c.history = m.0 in (omega arith, older p id m.0 m.1))
-                  (λ a. let g = new_place_has p (length found) (length left) a in let e : p ≡ length found = g.0 in let ne : length found ≢ length left = g.1 in
-                  (omega arith, put_elim c.place_seat (length c.history) id p (λ z. z ≡ id) (λ _. refl) (λ no. absurd (no (omega arith)))))
-                  (is_member-append p me.0.mine (new_place (length found) (length left)) h);
+                  (λ a. let g = new_index_has p (length found) (length left) a in let e : p ≡ length found = g.0 in let ne : length found ≢ length left = g.1 in
+                  (omega arith, put_elim c.index_seat (length c.history) id p (λ z. z ≡ id) (λ _. refl) (λ no. absurd (no (omega arith)))))
+                  (is_member-append p me.0.mine (new_index (length found) (length left)) h);
               made_once = λ p. once_more p me.0.mine (length found) (length left) (f.made_once p) (λ h. let l : p < length c.history = (f.made p h).0 in omega arith);
               told = f.told;
               raised = omega arith;
@@ -314,22 +314,22 @@ module _ {S E B : Type 0} (events : S → List E) (is_publish : E → Bool) (bas
               history = was;
               published = omega arith;
               numbers = λ q h m. m;
-              places = λ p l h m. older p j l m;
+              indices = λ p l h m. older p j l m;
               stands = stays c j u.seen d (λ q lo has. (has, lo)) u.stage (λ out. absurd (not_out s r id j u held other e out)) g.stands;
               head = λ h. add.plain (not_true (is_member 0 me.0.numbers) (λ y. other (sym (g.numbered 0 h).1 ∙ (f.numbered 0 y).1)));
             });
         each_ticket = λ q lo up. seat_set s.views id me.0 w (λ v. ticket_of v.stage ≡ some q) here
             (λ e. after_elim is_publish t found left (λ z. ticket_of z ≡ some q) (sym (ap ticket_of is) ∙ e) (sym (ap ticket_of is) ∙ e)) (c.ticket_seat q) (r.each_ticket q lo up);
         each_number = λ m l. seat_set s.views id me.0 w (λ v. is_member m v.numbers ≡ true) here (λ q. q) (c.number_seat m) (r.each_number m l);
-        each_place = λ p l. put_elim c.place_seat (length c.history) id p (λ z. SeatWith (set s.views id w) z (λ v. is_member p v.mine ≡ true))
+        each_index = λ p l. put_elim c.index_seat (length c.history) id p (λ z. SeatWith (set s.views id w) z (λ v. is_member p v.mine ≡ true))
             (λ e. (
               w,
               set_there s.views id me.0 w here,
               let q : p ≡ length found = omega arith in
-                  ap (λ (z : ℕ). is_member z (me.0.mine ++ new_place (length found) (length left))) q
-                  ∙ is_member-right (length found) me.0.mine (new_place (length found) (length left)) (new_place_there (length found) (length left) (λ z. omega arith)),
+                  ap (λ (z : ℕ). is_member z (me.0.mine ++ new_index (length found) (length left))) q
+                  ∙ is_member-right (length found) me.0.mine (new_index (length found) (length left)) (new_index_there (length found) (length left) (λ z. omega arith)),
             ))
-            (λ ne. seat_set s.views id me.0 w (λ v. is_member p v.mine ≡ true) here (λ q. is_member-left p me.0.mine (new_place (length found) (length left)) q) (c.place_seat p) (r.each_place p (omega arith)));
+            (λ ne. seat_set s.views id me.0 w (λ v. is_member p v.mine ≡ true) here (λ q. is_member-left p me.0.mine (new_index (length found) (length left)) q) (c.index_seat p) (r.each_index p (omega arith)));
         slot = let a = away_now s r id me.0 here (ap is_out is) in inr record {
           holder = w;
           holder_is = ap (get_elem? (set s.views id w)) held ∙ set_there s.views id me.0 w here;
@@ -380,7 +380,7 @@ module _ {S E B : Type 0} (events : S → List E) (is_publish : E → Bool) (bas
             (stays c j u.seen d (λ q lo has. (has, lo)) u.stage (λ _. (refl, refl)) g.stands));
         each_ticket = λ q lo hi. seat_set s.views id me.0 w (λ v. ticket_of v.stage ≡ some q) here (λ e. sym (ap ticket_of is) ∙ e) (c.ticket_seat q) (r.each_ticket q lo hi);
         each_number = λ m l. seat_set s.views id me.0 w (λ v. is_member m v.numbers ≡ true) here (λ q. q) (c.number_seat m) (r.each_number m l);
-        each_place = λ p l. seat_set s.views id me.0 w (λ v. is_member p v.mine ≡ true) here (λ q. q) (c.place_seat p) (r.each_place p l);
+        each_index = λ p l. seat_set s.views id me.0 w (λ v. is_member p v.mine ≡ true) here (λ q. q) (c.index_seat p) (r.each_index p l);
         slot = let a = away_now s r id me.0 here (ap is_out is) in inr record {
           holder = w;
           holder_is = ap (get_elem? (set s.views id w)) held ∙ set_there s.views id me.0 w here;
@@ -424,7 +424,7 @@ module _ {S E B : Type 0} (events : S → List E) (is_publish : E → Bool) (bas
         each_ticket = λ q lo hi. seat_set s.views id me.0 w (λ v. ticket_of v.stage ≡ some q) here
             (λ e. let same : t ≡ q = some-injective t q (sym (ap ticket_of is) ∙ e) in absurd (omega arith)) (c.ticket_seat q) (r.each_ticket q (omega arith) hi);
         each_number = λ m l. seat_set s.views id me.0 w (λ v. is_member m v.numbers ≡ true) here (λ q. q) (c.number_seat m) (r.each_number m l);
-        each_place = λ p l. seat_set s.views id me.0 w (λ v. is_member p v.mine ≡ true) here (λ q. q) (c.place_seat p) (r.each_place p l);
+        each_index = λ p l. seat_set s.views id me.0 w (λ v. is_member p v.mine ≡ true) here (λ q. q) (c.index_seat p) (r.each_index p l);
         slot = let a = away_now s r id me.0 here (ap is_out is) in inl record {
           value = y;
           at_home = ap (λ l. set l 0 (some y)) a.gone;
@@ -463,7 +463,7 @@ module _ {S E B : Type 0} (events : S → List E) (is_publish : E → Bool) (bas
             (λ j d _ e. r.each_seat j d e);
         each_ticket = λ q lo up. seat_set s.views id me.0 w (λ v. ticket_of v.stage ≡ some q) here (λ e. e) (c.ticket_seat q) (r.each_ticket q lo up);
         each_number = λ n l. seat_set s.views id me.0 w (λ v. is_member n v.numbers ≡ true) here (λ q. q) (c.number_seat n) (r.each_number n l);
-        each_place = λ p l. seat_set s.views id me.0 w (λ v. is_member p v.mine ≡ true) here (λ q. q) (c.place_seat p) (r.each_place p l);
+        each_index = λ p l. seat_set s.views id me.0 w (λ v. is_member p v.mine ≡ true) here (λ q. q) (c.index_seat p) (r.each_index p l);
         slot = ⊎_elim (λ (h : Home events is_publish base b seats c s). inl record {
           value = h.value;
           at_home = h.at_home;

@@ -28,7 +28,7 @@ below_once (suc n) k = let h = below_once n k in dite (ℕ_discrete k n)
 
 module _ {S E B : Type 0} (events : S → List E) (is_publish : E → Bool) (base : S → B) where
   pub opens : (seats : ℕ) (value : S) → events value ≡ [] → Kept events is_publish base (base value) seats (opening (0 ∷ 0 ∷ 0 ∷ 0 ∷ []) (value ∷ []) (beginner (base value) seats))
-  opens seats value empty = let c : Course E = record { history = []; ticket = 0; serving = 0; published = 0; ticket_seat = λ _. 0; number_seat = λ _. 0; place_seat = λ _. 0 } in let first : View E B = beginner (base value) seats in
+  opens seats value empty = let c : Course E = record { history = []; ticket = 0; serving = 0; published = 0; ticket_seat = λ _. 0; number_seat = λ _. 0; index_seat = λ _. 0 } in let first : View E B = beginner (base value) seats in
       let fits : Fits is_publish (base value) seats c 0 first = record {
         based = λ _. refl;
         spent = λ _. (refl, refl);
@@ -50,7 +50,7 @@ module _ {S E B : Type 0} (events : S → List E) (is_publish : E → Bool) (bas
         each_seat = only (Fits is_publish (base value) seats c) fits;
         each_ticket = λ t lo hi. absurd (omega arith);
         each_number = λ n l. (first, refl, below_there seats n l);
-        each_place = λ p l. absurd (omega arith);
+        each_index = λ p l. absurd (omega arith);
         slot = inl record {
           value = value;
           at_home = refl;

@@ -98,7 +98,7 @@ module _ {S E B : Type 0} (events : S → List E) (is_publish : E → Bool) (bas
         each_number = λ k l. put_elim c.number_seat n new k (λ z. SeatWith (vs ++ w ∷ []) z (λ x. is_member k x.numbers ≡ true)) (λ e. (w, at_last vs w new refl, is_member_first k n [] e))
             (λ ne. longer (λ x. is_member k x.numbers ≡ true) (c.number_seat k)
             (seat_set s.views id v u (λ x. is_member k x.numbers ≡ true) here (λ q. sym (is_member_other k n ns ne) ∙ (sym (ap (is_member k) are) ∙ q)) (c.number_seat k) (r.each_number k l)));
-        each_place = λ p l. longer (λ x. is_member p x.mine ≡ true) (c.place_seat p) (seat_set s.views id v u (λ x. is_member p x.mine ≡ true) here (λ q. q) (c.place_seat p) (r.each_place p l));
+        each_index = λ p l. longer (λ x. is_member p x.mine ≡ true) (c.index_seat p) (seat_set s.views id v u (λ x. is_member p x.mine ≡ true) here (λ q. q) (c.index_seat p) (r.each_index p l));
         slot = ⊎_elim (λ (h : Home events is_publish base b seats c s). inl record {
           value = h.value;
           at_home = h.at_home;

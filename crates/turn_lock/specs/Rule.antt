@@ -43,10 +43,10 @@ pub record Course (E : Type 0) : Type 0 where
   pub ticket : ℕ
   pub serving : ℕ
   pub published : ℕ
-  -- which seat has a ticket, has a number among the seats, and added the event at a place
+  -- which seat has a ticket, has a number among the seats, and added the event at an index
   pub ticket_seat : ℕ → ℕ
   pub number_seat : ℕ → ℕ
-  pub place_seat : ℕ → ℕ
+  pub index_seat : ℕ → ℕ
 
 module _ {E : Type 0} (c : Course E) (seat : ℕ) where
   -- the ticket was drawn, and it is the seat's
@@ -73,8 +73,8 @@ pub record Fits {E B : Type 0} (is_publish : E → Bool) (b : B) (seats : ℕ) (
   pub begins : Begins v.seen c.history
   -- the head has seen each publishing event
   pub head : is_member 0 v.numbers ≡ true → count_by is_publish v.seen ≡ count_by is_publish c.history
-  -- each place is in one view, once
-  pub made : (p : ℕ) → is_member p v.mine ≡ true → (p < length c.history) × (c.place_seat p ≡ seat)
+  -- each index is in one view, once
+  pub made : (p : ℕ) → is_member p v.mine ≡ true → (p < length c.history) × (c.index_seat p ≡ seat)
   pub made_once : (p : ℕ) → count_of p v.mine ≤ 1
   pub told : v.told ≤ c.published
   pub raised : count_by is_publish v.seen ≤ c.published + unraised v.stage
@@ -111,7 +111,7 @@ module _ {S E B : Type 0} (events : S → List E) (is_publish : E → Bool) (bas
     pub each_seat : (i : ℕ) (v : View E B) → get_elem? s.views i ≡ some v → Fits is_publish b seats course i v
     pub each_ticket : (t : ℕ) → course.serving ≤ t → t < course.ticket → SeatWith s.views (course.ticket_seat t) (λ v. ticket_of v.stage ≡ some t)
     pub each_number : (n : ℕ) → n < seats → SeatWith s.views (course.number_seat n) (λ v. is_member n v.numbers ≡ true)
-    pub each_place : (p : ℕ) → p < length course.history → SeatWith s.views (course.place_seat p) (λ v. is_member p v.mine ≡ true)
+    pub each_index : (p : ℕ) → p < length course.history → SeatWith s.views (course.index_seat p) (λ v. is_member p v.mine ≡ true)
     pub slot : Home course s ⊎ Away course s
 
 -- the first view, which has all numbers

@@ -9,9 +9,9 @@ use Rattle.turn_lock.specs.Lists.{is_member, Begins}
 abbrev pub with_stage : {E B : Type 0} → View E B → Stage E → View E B
 with_stage v st = record v { stage = st }
 
--- the place of the event that was added, if one was
-abbrev pub new_place : ℕ → ℕ → List ℕ
-new_place old new = if old == new then [] else old ∷ []
+-- the index of the event that was added, if one was
+abbrev pub new_index : ℕ → ℕ → List ℕ
+new_index old new = if old == new then [] else old ∷ []
 
 -- at most one event is added, and a publishing event at the head's turns alone
 pub record Adds {E : Type 0} (is_publish : E → Bool) (is_head : Bool) (found left : List E) : Type 0 where
@@ -26,7 +26,7 @@ stage_after is_publish t found left = if count_by is_publish found == count_by i
 
 -- the view after a turn that found one list and left the other
 abbrev pub view_after : {E B : Type 0} → View E B → List E → List E → Stage E → View E B
-view_after v found left st = record v { seen = left; mine = v.mine ++ new_place (length found) (length left); stage = st }
+view_after v found left st = record v { seen = left; mine = v.mine ++ new_index (length found) (length left); stage = st }
 
 module _ {S E B : Type 0} where
   -- the ticket was drawn, where the word was as expected; or nothing changed

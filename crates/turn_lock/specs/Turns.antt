@@ -6,7 +6,7 @@ use Rattle.turn_lock.specs.declared.rule.View.{View}
 use Rattle.turn_lock.specs.declared.rule.Stage.TheVariants.{Idle}
 use Rattle.turn_lock.specs.Lists.{Begins, is_member, count_of}
 use Rattle.turn_lock.specs.Rule.{Reaches}
-use Rattle.turn_lock.specs.Steps.{Adds, new_place}
+use Rattle.turn_lock.specs.Steps.{Adds, new_index}
 
 -- which lock it is, the base of its value, and how many seats it has
 pub record LockFacts (B : Type 0) : Type 0 where
@@ -15,7 +15,7 @@ pub record LockFacts (B : Type 0) : Type 0 where
   pub seats : ℕ
 
 -- whose turn it is: the lock, its base and the number among the seats, which never change; what its turns have seen of
--- the history, the places of the events that they added, and the last number that it was told as published
+-- the history, the indices of the events that they added, and the last number that it was told as published
 pub record Token (E B : Type 0) : Type 0 where
   pub table : TableId
   pub base : Option B
@@ -50,13 +50,13 @@ module _ {E B : Type 0} where
   abbrev pub newcomer : LockFacts B → ℕ → Token E B
   newcomer lock number = new_token lock.table (Some lock.base) number
 
-  -- how often the place stands among the places of the turns
+  -- how often the index stands among the indices of the turns
   abbrev pub times_made : ℕ → List (Token E B) → ℕ
   times_made p turns = sum_by (λ t. count_of p t.mine) turns
 
   -- the turn after a call that found one list and left the other
   abbrev pub turned : Token E B → List E → List E → Token E B
-  turned turn found left = record turn { seen = left; mine = turn.mine ++ new_place (length found) (length left) }
+  turned turn found left = record turn { seen = left; mine = turn.mine ++ new_index (length found) (length left) }
 
 module _ {S E B : Type 0} (events : S → List E) (is_publish : E → Bool) (base : S → B) where
   -- what a turn may rely on of the value that it finds: it has the lock's base, and its list begins with all that the

@@ -3,13 +3,13 @@
 //! `docs/CONCURRENCY.md` says in plain words what a turn does, step by step, and what is proved.
 #![tactic(auto)]
 
-mod board;
 mod lock;
+mod lock_table;
 mod logged;
 mod plays;
 mod rule;
 #[cfg(test)]
 mod tests;
 
-pub use lock::{MAX_SEATS, Turn, TurnLock};
+pub use lock::{SEAT_LIMIT, Turn, TurnLock};
 pub use logged::Logged;

@@ -1,4 +1,4 @@
-//! What the lock may hold.
+// What the lock may hold.
 ghost use Rattle.std.specs.Prelude.{◌≡◌, List, Bool, length, count_by};
 
 /// A value that stands for a list of events, the history so far.

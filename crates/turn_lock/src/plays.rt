@@ -1,4 +1,4 @@
-//! What each step on the table tells the seat that makes it.
+// What each step on the table tells the seat that makes it.
 ghost use Rattle.turn_lock.specs.Steps.{drew, looked, committed, raised, passed, refreshed, giver, given, both, spent};
 
 use crate::logged::Logged;

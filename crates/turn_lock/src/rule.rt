@@ -1,4 +1,4 @@
-//! What stands in the table under the lock, what its seats know, and the rule that each step keeps.
+// What stands in the table under the lock, what its seats know, and the rule that each step keeps.
 use crate::logged::Logged;
 use atomic_table::TableRule;
 use std::collections::LinkedList;
@@ -6,16 +6,16 @@ use std::snapshot::Snapshot;
 
 // Indexes of the words.
 
-/// The next ticket to be drawn.
+// The next ticket to be drawn.
 pub(crate) const TICKET: usize = 0;
 
-/// The ticket whose turn it is.
+// The ticket whose turn it is.
 pub(crate) const SERVING: usize = 1;
 
-/// The length of the history.
+// The length of the history.
 pub(crate) const COUNT: usize = 2;
 
-/// The last published number.
+// The last published number.
 pub(crate) const PUBLISHED: usize = 3;
 
 /// How far a seat's turn has come. No value of it is made.
@@ -35,7 +35,7 @@ pub enum Stage<E> {
 pub struct View<E, B> {
     /// The beginning of the history that its turns have seen.
     pub seen: LinkedList<E>,
-    /// The places in the history of the events that its turns have added.
+    /// The indices in the history of the events that its turns have added.
     pub mine: LinkedList<u64>,
     /// The last number that it was told as published.
     pub told: u64,

@@ -1,4 +1,4 @@
-//! The lock round a diary, whose entries are its events.
+// The lock round a diary, whose entries are its events.
 ghost use Rattle.std.specs.Prelude.{◌≡◌, ◌+◌, [], ◌∷◌, ◌++◌, length, count_by, IfSome};
 ghost use Rattle.turn_lock.specs.Steps.{Adds};
 ghost use Rattle.turn_lock.specs.Turns.{newcomer, IsTurnOf};
@@ -35,11 +35,11 @@ impl Diary {
         }
     }
 
-    // The entry's place, if there was memory for it.
+    // The entry's index, if there was memory for it.
     fn add(&mut self, entry: Entry) -> Option<u64>
         ensures name { self.new.name ≡ self.old.name }
         ensures adds { Adds (λ e. e.publishes) entry.publishes self.old.entries.items self.new.entries.items }
-        ensures place { IfSome result (λ at. (at ≡ length self.old.entries.items) × (length self.new.entries.items ≡ at + 1)) }
+        ensures index { IfSome result (λ at. (at ≡ length self.old.entries.items) × (length self.new.entries.items ≡ at + 1)) }
     {
         let at = self.count();
         if self.entries.push(entry).is_err() {
@@ -99,7 +99,7 @@ fn closed(
     Some(lock.close(turns))
 }
 
-// Adds an entry, and answers its place.
+// Adds an entry, and answers its index.
 fn note<W: Wait>(
     rt: &W,
     lock: &TurnLock<Diary>,
@@ -110,7 +110,7 @@ fn note<W: Wait>(
     requires own { IsTurnOf lock.now turn.old }
     ensures own { IsTurnOf lock.now turn.new }
     ensures number { turn.new.number ≡ turn.old.number }
-    ensures place { IfSome result (λ at. turn.new.mine ≡ turn.old.mine ++ at ∷ []) }
+    ensures index { IfSome result (λ at. turn.new.mine ≡ turn.old.mine ++ at ∷ []) }
 {
     lock.with_turn(
         rt,
@@ -123,7 +123,7 @@ fn note<W: Wait>(
     )
 }
 
-// Adds a publishing entry, and answers its place.
+// Adds a publishing entry, and answers its index.
 fn publish<W: Wait>(
     rt: &W,
     lock: &TurnLock<Diary>,
@@ -146,7 +146,7 @@ fn publish<W: Wait>(
     )
 }
 
-// Adds an entry at each of a hundred turns, and answers their places.
+// Adds an entry at each of a hundred turns, and answers their indices.
 fn hundred<W: Wait>(
     rt: &W,
     alloc: Global,
@@ -158,16 +158,16 @@ fn hundred<W: Wait>(
     ensures own { IsTurnOf lock.now result.0 }
     ensures number { result.0.number ≡ turn.number }
 {
-    let mut places = Vec::new(alloc);
+    let mut indices = Vec::new(alloc);
     for number in 0..100 {
         let Some(at) = note(rt, lock, &mut turn, by, number) else {
             return (turn, None);
         };
-        if places.push(at).is_err() {
+        if indices.push(at).is_err() {
             return (turn, None);
         }
     }
-    (turn, Some(places))
+    (turn, Some(indices))
 }
 
 // Publishes so many entries, numbered from 0 on.
@@ -190,7 +190,8 @@ fn publish_all<W: Wait>(
     (head, true)
 }
 
-// Asks for the published number again and again, with no leave to wait, and answers whether it never fell.
+// Asks for the published number again and again, with no leave to wait, and answers whether it
+// never fell.
 fn watch(lock: &TurnLock<Diary>, mut turn: Turn<Diary>) -> (Turn<Diary>, bool)
     requires own { IsTurnOf lock.now turn }
     ensures own { IsTurnOf lock.now result.0 }
@@ -207,7 +208,7 @@ fn watch(lock: &TurnLock<Diary>, mut turn: Turn<Diary>) -> (Turn<Diary>, bool)
     (turn, true)
 }
 
-// What a turn adds in a thread of its own: the turn comes back, with the places of the entries.
+// What a turn adds in a thread of its own: the turn comes back, with the indices of the entries.
 type Added = (Turn<Diary>, Option<Vec<u64>>);
 
 fn add_beside<R: Threads + Wait + Sync>(
@@ -287,8 +288,8 @@ fn two_threads_add_each_event_once(rt: HostRuntime) -> Result<(), Fail> {
     let ((head, first), (other, second)) = add_beside(&rt, rt.alloc(), &lock, head, other);
     let diary = closed(rt.alloc(), lock, head, other).ok_or("memory")?;
     assert_eq!(rt; diary.entries.len(), 200);
-    for (by, places) in [(0, first.ok_or("memory")?), (1, second.ok_or("memory")?)] {
-        for (number, at) in places.iter().enumerate() {
+    for (by, indices) in [(0, first.ok_or("memory")?), (1, second.ok_or("memory")?)] {
+        for (number, at) in indices.iter().enumerate() {
             let want = Entry {
                 by,
                 number: number as u64,

@@ -1,21 +1,21 @@
-//! The turns of a lock's seats, as they are made and as they come back.
+// The turns of a lock's seats, as they are made and as they come back.
 ghost use Rattle.std.specs.Prelude.{◌≡◌, ℕ, ◌<◌, ◌≤◌, [], length, slice_get, vec_len, vec_capacity, All, EachIndex, Some};
 ghost use Rattle.turn_lock.specs.declared.rule.Stage.TheVariants.{Idle};
 ghost use Rattle.turn_lock.specs.Rule.{beginner};
 ghost use Rattle.turn_lock.specs.Turns.{new_token, Gathers};
 
 use super::Turn;
-use crate::board::{Board, LockSeat};
+use crate::lock_table::{LockSeat, LockTable};
 use crate::logged::Logged;
 
 // A turn for each number, in rising order.
 pub(super) fn deal<V: Logged>(
-    board: &Board<V>,
+    lock_table: &LockTable<V>,
     mut seat: LockSeat<V>,
     seats: u32,
     turns: &mut Vec<Turn<V>>,
 )
-    requires own { seat.table_id ≡ board.now.table.shared.table_id }
+    requires own { seat.table_id ≡ lock_table.now.table.shared.table_id }
     requires first { (b : V.Base) × (seat.me ≡ (beginner b seats, [])) }
     requires seats { 1 ≤ seats }
     requires room { (turns.old.items ≡ []) × (seats ≤ vec_capacity turns.old) }
@@ -25,7 +25,7 @@ pub(super) fn deal<V: Logged>(
     // The highest number is given away first.
     let mut left = seats;
     while left > 1 {
-        let given = board.split(&mut seat);
+        let given = lock_table.split(&mut seat);
         turns.push_reserved(Turn { seat: given });
         left -= 1;
     }
@@ -34,10 +34,10 @@ pub(super) fn deal<V: Logged>(
 }
 
 // One seat that knows what the seats of all these turns knew.
-pub(super) fn gather<V: Logged>(board: &Board<V>, mut turns: Vec<Turn<V>>) -> LockSeat<V>
-    requires own { All (λ t. t.table ≡ board.now.table.shared.table_id) turns.items }
+pub(super) fn gather<V: Logged>(lock_table: &LockTable<V>, mut turns: Vec<Turn<V>>) -> LockSeat<V>
+    requires own { All (λ t. t.table ≡ lock_table.now.table.shared.table_id) turns.items }
     requires some { 0 < vec_len turns }
-    ensures own { result.table_id ≡ board.now.table.shared.table_id }
+    ensures own { result.table_id ≡ lock_table.now.table.shared.table_id }
     ensures idle { result.me.0.stage ≡ Idle }
     ensures gathers { Gathers result.me.0 turns.items }
 {
@@ -47,7 +47,7 @@ pub(super) fn gather<V: Logged>(board: &Board<V>, mut turns: Vec<Turn<V>>) -> Lo
     let Turn { mut seat } = last;
     while let Some(turn) = turns.pop() {
         let Turn { seat: other } = turn;
-        board.join(&mut seat, other);
+        lock_table.join(&mut seat, other);
     }
     seat
 }

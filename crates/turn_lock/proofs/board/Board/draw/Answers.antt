@@ -1,6 +1,0 @@
-use Rattle.std.proofs.Common.{subst, sym, length, ◌<◌, rules, refl}
-use Rattle.turn_lock.proofs.Keeps.{draws}
-use Rattle.turn_lock.proofs.board.Board.draw.Goals as goal
-
-pub compare_exchange-found-requires : goal.compare_exchange-found-requires
-compare_exchange-found-requires g c = (search rules, search rules, draws _ _ _ _ _ _ _ _ _ _ refl (search rules) (subst (λ m. 0 < length m.0.numbers) (sym c.loop.invariant.2) c.requires.idle.1))

@@ -1,6 +1,0 @@
-use Rattle.std.proofs.Common.{rules}
-use Rattle.turn_lock.proofs.Keeps.{refreshes}
-use Rattle.turn_lock.proofs.board.Board.fresh.Goals as goal
-
-pub load-requires : goal.load-requires
-load-requires g c = (search rules, search rules, refreshes _ _ _ _ _ _ _ _ c.requires.idle)
