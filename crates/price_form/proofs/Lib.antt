@@ -15,3 +15,4 @@ pub mod GoesOn
 pub mod FrontFaults
 pub mod OneFront
 pub mod Causes
+pub mod InPlace

@@ -6,8 +6,8 @@ use Rattle.price_form.specs.declared.certs.PriceRecord.{PriceRecord}
 use Rattle.price_form.specs.declared.reading.Counts.{Counts}
 use Rattle.price_form.specs.Certificates.{IsCert}
 use Rattle.price_form.specs.Octets.{half_at, word_at, price_number_at, edge_numbers_at, entry_number_at, many_at}
-use Rattle.price_form.specs.Spelling.{record_octets}
-use Rattle.price_form.specs.Files.{IsRecord, StandsAt}
+use Rattle.price_form.specs.Spelling.{cert_octets, record_octets}
+use Rattle.price_form.specs.Files.{IsInRange, IsRecord, StandsAt}
 
 -- the piece stands in the octets from place p on
 pub record Stands (xs : List ℕ) (p : ℕ) (piece : List ℕ) : Type 0 where
@@ -78,3 +78,10 @@ ReadsNone xs p = cert_end xs p ≤ length xs → IsCert (cert_read xs p) → IsP
 -- no record stands at p
 abbrev pub NoRecord : List ℕ → ℕ → Type 0
 NoRecord xs p = (r : PriceRecord) → IsRecord r → Stands xs p (record_octets r) → ⊥
+
+-- the record of this certificate begins at p
+pub record HasCert (xs : List ℕ) (p : ℕ) (c : Cert) : Type 0 where
+  pub formed : IsCert c
+  pub problem : IsProblem c.costs
+  pub fits : IsInRange c
+  pub stands : Stands xs p (cert_octets c)

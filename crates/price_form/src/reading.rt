@@ -1,8 +1,9 @@
 ghost use Rattle.std.specs.Prelude.{◌≡◌, ◌<◌, ◌≤◌, ◌-◌, ◌↔◌, ◌⊎◌, ◌^◌, ℕ, List, IsTrue, MatchOption, MatchResult, IfSome, IfOk, All, length};
 ghost use Rattle.assignment_dual.specs.Problems.{IsProblem};
+ghost use Rattle.price_form.specs.declared.certs.Cert.{Cert};
 ghost use Rattle.price_form.specs.declared.certs.PriceRecord.{PriceRecord};
 ghost use Rattle.assignment_dual.specs.Problems.{EdgeBefore, edge_at};
-ghost use Rattle.price_form.specs.Reading.{end_of, HasCounts, ReadsNone, ReadsCert, NoRecord, ReadsRecord};
+ghost use Rattle.price_form.specs.Reading.{end_of, HasCert, HasCounts, ReadsNone, ReadsCert, NoRecord, ReadsRecord};
 ghost use Rattle.price_form.specs.Files.{ArePrices, IsFault, IfFault};
 
 use crate::numbers::{edges_at, entries_at, half_at, prices_at, word_at, words_at};
@@ -56,6 +57,20 @@ fn counts_at(octets: &[u8], at: usize) -> Option<Counts>
         return None;
     }
     Some(counts)
+}
+
+/// The counts of the certificate whose record begins at a place.
+pub(crate) fn counts_of(octets: &[u8], at: usize) -> Counts
+    requires { (c : Cert) × HasCert octets.now at c }
+    ensures { HasCounts octets.now at result }
+{
+    let plots = half_at(octets, at + 10);
+    let tracks = half_at(octets, at + 14);
+    Counts {
+        plots,
+        tracks,
+        edges: half_at(octets, at + 18 + plots as usize * 8 + tracks as usize * 8),
+    }
 }
 
 impl Counts {
