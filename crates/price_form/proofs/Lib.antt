@@ -16,3 +16,4 @@ pub mod FrontFaults
 pub mod OneFront
 pub mod Causes
 pub mod InPlace
+pub mod Taking
