@@ -20,6 +20,8 @@ pub mod Candidates
 pub mod Prefixes
 pub mod Building
 pub mod Answer
+pub mod Existing
+pub mod Unique
 pub mod Renumbering
 pub mod Parts
 pub mod Restricting

@@ -8,7 +8,8 @@ use Rattle.std.proofs.lemmas.List.Elements.{Contains-get_or}
 use Rattle.assignment_dual.specs.Pairings.{Row, IsLeast, part, GatesNone}
 use Rattle.assignment_dual.specs.Rests.{no_row, row_at}
 use Rattle.assignment_dual.specs.Parts.{part_at, at_plots, AreParts}
-use Rattle.assignment_dual.proofs.Sets.{two_sets}
+use Rattle.assignment_dual.proofs.Sets.{two_sets, least_of_set}
+use Rattle.assignment_dual.proofs.Unique.{gate_count}
 use Rattle.assignment_dual.proofs.Prefixes.{nothing_least}
 use Rattle.assignment_dual.proofs.Renumbering.{rise_on}
 
@@ -294,20 +295,52 @@ place_in ps p c = (c.0, c.1, get_or_default ps c.0 0 p c.1 ∙ c.2)
 at_place : (ps : List ℕ) (k : ℕ) → k < length ps → Contains ps (get_or ps k 0)
 at_place ps k h = Contains-get_or ps k 0 h
 
+-- labels by which the parts are picked, each of which has tracks of its own
+record PartLabels (rows : List Row) (parts : List (List ℕ)) : Type 0 where
+  pub labels : List ℕ
+  pub count : length rows ≡ length labels
+  pub below : Below (length parts) labels
+  pub only : (t : ℕ) → (m : ℕ) × Only t m labels rows
+  pub picks : (i : ℕ) → Picks i labels (part_at parts i)
+
+part_labels : (rows : List Row) (parts : List (List ℕ)) → AreParts rows parts → PartLabels rows parts
+part_labels rows parts a =
+    let b : Labels (length rows) (λ p i. (i < length parts) × Contains (part_at parts i) p) = labels_of (length rows) (λ p i. (i < length parts) × Contains (part_at parts i) p) (λ p h. let w : (i : ℕ) × (i < length parts) × Contains (part_at parts i) p = a.whole p h in (w.0, (w.1, w.2))) in
+    let n : length rows ≡ length b.labels = sym b.count in
+    record {
+      labels = b.labels;
+      count = n;
+      below = below_from (length parts) b.labels (λ p h. (b.each p (omega (arith, h, n))).0);
+      only = λ t. only_of t b.labels rows (λ p q h k g j. a.apart (get_or b.labels p 0) (get_or b.labels q 0) p q t (b.each p h).1 (b.each q k).1 g j);
+      picks = λ i. record {
+        rising = a.rising i;
+        sound = λ k h.
+            let p : get_or (part_at parts i) k 0 < length rows = a.inside i (get_or (part_at parts i) k 0) (at_place (part_at parts i) k h) in
+            (omega (arith, p, n), a.once (get_or b.labels (get_or (part_at parts i) k 0) 0) i (get_or (part_at parts i) k 0) (b.each (get_or (part_at parts i) k 0) p).1 (at_place (part_at parts i) k h));
+        complete = λ p h e. place_in (part_at parts i) p (subst (λ (j : ℕ). Contains (part_at parts j) p) e (b.each p (omega (arith, h, n))).1);
+      };
+    }
+
 pub many_parts : (rows : List Row) (xs : List (Option ℕ)) (parts : List (List ℕ)) → length xs ≡ length rows → AreParts rows parts
     → ((i : ℕ) → i < length parts → IsLeast (at_plots no_row rows (part_at parts i)) (at_plots None xs (part_at parts i))) → IsLeast rows xs
 many_parts rows xs parts l a f =
-    let b : Labels (length rows) (λ p i. (i < length parts) × Contains (part_at parts i) p) = labels_of (length rows) (λ p i. (i < length parts) × Contains (part_at parts i) p) (λ p h. let w : (i : ℕ) × (i < length parts) × Contains (part_at parts i) p = a.whole p h in (w.0, (w.1, w.2))) in
-    let n : length rows ≡ length b.labels = sym b.count in
-    let picks : (i : ℕ) → Picks i b.labels (part_at parts i) = λ i. record {
-      rising = a.rising i;
-      sound = λ k h.
-          let p : get_or (part_at parts i) k 0 < length rows = a.inside i (get_or (part_at parts i) k 0) (at_place (part_at parts i) k h) in
-          (omega (arith, p, n), a.once (get_or b.labels (get_or (part_at parts i) k 0) 0) i (get_or (part_at parts i) k 0) (b.each (get_or (part_at parts i) k 0) p).1 (at_place (part_at parts i) k h));
-      complete = λ p h e. place_in (part_at parts i) p (subst (λ (j : ℕ). Contains (part_at parts j) p) e (b.each p (omega (arith, h, n))).1);
-    } in
-    by_labels (length parts) b.labels rows xs (below_from (length parts) b.labels (λ p h. (b.each p (omega (arith, h, n))).0)) n (l ∙ n)
-    (λ t. only_of t b.labels rows (λ p q h k g j. a.apart (get_or b.labels p 0) (get_or b.labels q 0) p q t (b.each p h).1 (b.each q k).1 g j))
+    let b : PartLabels rows parts = part_labels rows parts a in
+    by_labels (length parts) b.labels rows xs b.below b.count (l ∙ b.count) b.only
     (λ i h.
-    subst (λ (o : List Row). IsLeast o (labelled i b.labels xs)) (sym (picked_at no_row i b.labels rows (part_at parts i) n (picks i)))
-    (subst (IsLeast (at_plots no_row rows (part_at parts i))) (sym (picked_at None i b.labels xs (part_at parts i) (l ∙ n) (picks i))) (f i h)))
+    subst (λ (o : List Row). IsLeast o (labelled i b.labels xs)) (sym (picked_at no_row i b.labels rows (part_at parts i) b.count (b.picks i)))
+    (subst (IsLeast (at_plots no_row rows (part_at parts i))) (sym (picked_at None i b.labels xs (part_at parts i) (l ∙ b.count) (b.picks i))) (f i h)))
+
+-- the least pairing of the whole, as it falls to a part
+pub least_of_part : (rows : List Row) (xs : List (Option ℕ)) (parts : List (List ℕ)) → AreParts rows parts → IsLeast rows xs → (i : ℕ) → IsLeast (at_plots no_row rows (part_at parts i)) (at_plots None xs (part_at parts i))
+least_of_part rows xs parts a h i =
+    let b : PartLabels rows parts = part_labels rows parts a in
+    let l : length xs ≡ length rows = gate_count rows xs h.pairing.gates in
+    subst (λ (o : List Row). IsLeast o (at_plots None xs (part_at parts i))) (picked_at no_row i b.labels rows (part_at parts i) b.count (b.picks i))
+    (subst (IsLeast (labelled i b.labels rows)) (picked_at None i b.labels xs (part_at parts i) (l ∙ b.count) (b.picks i))
+    (least_of_set (is_label i b.labels) rows xs (length-map b.labels (λ (m : ℕ). eqb m i) ∙ sym b.count) (λ t. apart_at b i t (b.only t)) h))
+  where
+    apart_at : (b : PartLabels rows parts) (i t : ℕ) → (m : ℕ) × Only t m b.labels rows → GatesNone t (labelled i b.labels rows) ⊎ GatesNone t (others i b.labels rows)
+    apart_at b i t o = elim (cases_eq o.0 i) [
+      | inl q ↦ inr (gates_none_others t i b.labels rows (subst (λ (m : ℕ). Only t m b.labels rows) q o.1))
+      | inr d ↦ inl (gates_none t o.0 i b.labels rows d o.1)
+    ]

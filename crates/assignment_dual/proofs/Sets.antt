@@ -1,7 +1,7 @@
 -- The first pairing of two sets apart is the two first pairings put together.
-use Rattle.std.proofs.Common.{◌≡◌, ◌≢◌, ◌<◌, ◌⊎◌, ℕ, ◌+◌, List, [], ◌∷◌, Bool, true, false, length, Option, Some, None, arith, refl, ◌∙◌, ap, IsSome}
+use Rattle.std.proofs.Common.{◌≡◌, ◌≢◌, ◌<◌, ◌⊎◌, ℕ, ◌+◌, List, [], ◌∷◌, Bool, true, false, length, Option, Some, None, arith, refl, sym, subst, ◌∙◌, ap, IsSome}
 use mathlib.Core.Logic.{inl, inr}
-use Rattle.assignment_dual.specs.Pairings.{Row, Gates, AllGate, Misses, Once, IsPairing, cost, NotAfter, IsLeast, part, GatesNone, Apart}
+use Rattle.assignment_dual.specs.Pairings.{Row, Gates, AllGate, Misses, Once, IsPairing, cost, EntryBefore, NotAfter, ComesFirst, IsLeast, part, GatesNone, Apart}
 
 abbrev pub SameLength : {X Y : Type 0} → List X → List Y → Type 0
 SameLength [] [] = Unit {0}
@@ -177,4 +177,62 @@ two_sets sides rows xs n m d a b =
           (a.first (part true sides ys) (part_pairing true sides rows ys h))
           (b.first (part false sides ys) (part_pairing false sides rows ys h))
           (join_order sides xs ys (same_lengths sides rows xs l k) (through_length xs rows ys (flip_length rows xs k) j));
+    }
+
+-- The other way: of the first pairing of two sets apart, what falls to one set is the set's first pairing.
+record Woven (sides : List Bool) (rows : List Row) (ys zs : List (Option ℕ)) : Type 0 where
+  pub both : List (Option ℕ)
+  pub long : SameLength rows both
+  pub trues : part true sides both ≡ ys
+  pub falses : part false sides both ≡ zs
+
+woven : (sides : List Bool) (rows : List Row) (ys zs : List (Option ℕ)) → SameLength sides rows → SameLength (part true sides rows) ys → SameLength (part false sides rows) zs → Woven sides rows ys zs
+woven [] [] [] [] l a b = record { both = []; long = tt; trues = refl; falses = refl }
+woven [] [] (y ∷ ys) zs l a b = absurd a
+woven [] [] [] (z ∷ zs) l a b = absurd b
+woven [] (row ∷ rows) ys zs l a b = absurd l
+woven (s ∷ sides) [] ys zs l a b = absurd l
+woven (true ∷ sides) (row ∷ rows) [] zs l a b = absurd a
+woven (true ∷ sides) (row ∷ rows) (y ∷ ys) zs l a b =
+    let w : Woven sides rows ys zs = woven sides rows ys zs l a b in
+    record { both = y ∷ w.both; long = w.long; trues = ap (λ (o : List (Option ℕ)). y ∷ o) w.trues; falses = w.falses }
+woven (false ∷ sides) (row ∷ rows) ys [] l a b = absurd b
+woven (false ∷ sides) (row ∷ rows) ys (z ∷ zs) l a b =
+    let w : Woven sides rows ys zs = woven sides rows ys zs l a b in
+    record { both = z ∷ w.both; long = w.long; trues = w.trues; falses = ap (λ (o : List (Option ℕ)). z ∷ o) w.falses }
+
+not_before : (x y : Option ℕ) → x ≡ y → EntryBefore x y → ⊥
+not_before None y e b = b
+not_before (Some s) None e b = absurd cc
+not_before (Some s) (Some t) e b = let q : s ≡ t = cc in omega (arith, q, b)
+
+-- lists that differ at one set alone have that set's order
+part_order : (sides : List Bool) (xs ys : List (Option ℕ)) → SameLength sides xs → SameLength xs ys → part false sides xs ≡ part false sides ys → NotAfter xs ys → NotAfter (part true sides xs) (part true sides ys)
+part_order [] xs ys l m e h = tt
+part_order (s ∷ sides) [] ys l m e h = absurd l
+part_order (s ∷ sides) (x ∷ xs) [] l m e h = absurd m
+part_order (true ∷ sides) (x ∷ xs) (y ∷ ys) l m e h = elim h [ inl a ↦ inl a | inr a ↦ inr (a.0, part_order sides xs ys l m e a.1) ]
+part_order (false ∷ sides) (x ∷ xs) (y ∷ ys) l m e h = elim h [ inl a ↦ absurd (not_before x y (cc) a) | inr a ↦ part_order sides xs ys l m (cc) a.1 ]
+
+part_first : (a b c d x y : ℕ) (P Q : Type 0) → x ≡ a + b → y ≡ c + d → b ≡ d → (x < y) ⊎ ((x ≡ y) × P) → (P → Q) → (a < c) ⊎ ((a ≡ c) × Q)
+part_first a b c d x y P Q e f g h k = elim h [ inl p ↦ inl (omega (arith, e, f, g, p)) | inr p ↦ inr (omega (arith, e, f, g, p.0), k p.1) ]
+
+pub least_of_set : (sides : List Bool) (rows : List Row) (xs : List (Option ℕ)) → length sides ≡ length rows → Apart (part true sides rows) (part false sides rows) → IsLeast rows xs → IsLeast (part true sides rows) (part true sides xs)
+least_of_set sides rows xs n d h =
+    let l : SameLength sides rows = from_length sides rows n in
+    let k : SameLength rows xs = gates_length rows xs h.pairing.gates in
+    let f : IsPairing (part false sides rows) (part false sides xs) = part_pairing false sides rows xs h.pairing in
+    record {
+      pairing = part_pairing true sides rows xs h.pairing;
+      first = λ ys p.
+          let w : Woven sides rows ys (part false sides xs) = woven sides rows ys (part false sides xs) l (gates_length (part true sides rows) ys p.gates) (gates_length (part false sides rows) (part false sides xs) f.gates) in
+          let gt : AllGate (part true sides rows) (part true sides w.both) = subst (AllGate (part true sides rows)) (sym w.trues) p.gates in
+          let gf : AllGate (part false sides rows) (part false sides w.both) = subst (AllGate (part false sides rows)) (sym w.falses) f.gates in
+          let q : IsPairing rows w.both = record {
+            gates = join_gates sides rows w.both l w.long gt gf;
+            once = join_once sides rows w.both l w.long d gt gf (subst Once (sym w.trues) p.once) (subst Once (sym w.falses) f.once);
+          } in
+          subst (λ (o : List (Option ℕ)). ComesFirst (part true sides rows) (part true sides xs) o) w.trues
+          (part_first _ _ _ _ _ _ _ _ (costs_add sides rows xs l k) (costs_add sides rows w.both l w.long) (ap (cost (part false sides rows)) (sym w.falses)) (h.first w.both q)
+          (part_order sides xs w.both (same_lengths sides rows xs l k) (through_length xs rows w.both (flip_length rows xs k) w.long) (sym w.falses)));
     }

@@ -10,3 +10,4 @@ pub mod Choices
 pub mod Graphs
 pub mod Renumbering
 pub mod Parts
+pub mod Least

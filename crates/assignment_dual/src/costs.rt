@@ -1,5 +1,6 @@
+use std::alloc::Global;
 use std::marker::Model;
-use trk_base::Sequence;
+use trk_base::{NoMemory, Sequence, TryCopy};
 
 /// An assignment problem: a batch's plots, the tracks, and what each gate costs.
 ///
@@ -27,6 +28,16 @@ impl Model for Costs {
     ghost invariant = { λ c. IsProblem (record { plots = c.plots; tracks = c.tracks; edges = c.edges }) };
 
     ghost inverse = { λ c. record { plots = c.plots; tracks = c.tracks; edges = c.edges } };
+}
+
+impl TryCopy for Costs {
+    fn copy(&self, alloc: Global) -> Result<Costs, NoMemory> {
+        Ok(Costs {
+            plots: self.plots,
+            tracks: self.tracks,
+            edges: self.edges.copy(alloc)?,
+        })
+    }
 }
 
 /// The least pairing of an assignment problem, with prices that prove it.

@@ -7,6 +7,7 @@ ghost use Rattle.assignment_dual.specs.Parts.{part_at, at_plots, AreParts, IsPar
 ghost use Rattle.assignment_dual.specs.Problems.{Problem, IsProblem, rows_of, Proves};
 ghost use Rattle.assignment_dual.specs.Renumbering.{AreRenumbered, renumbered};
 ghost use Rattle.assignment_dual.specs.Rests.{no_row};
+ghost use Rattle.assignment_dual.specs.Least.{least_pairing, GateBelow, AreAlike};
 
 /// Where the plots of a batch fall in two sets and no track gates plots of both, the least pairing
 /// of the batch is the two least pairings put together, also where the sets interleave.
@@ -40,4 +41,30 @@ pub fn part_of_batch()
 pub fn many_parts()
     ensures { (rows : List Row) (xs : List (Option ℕ)) (parts : List (List ℕ)) → length xs ≡ length rows → AreParts rows parts
         → ((i : ℕ) → i < length parts → IsLeast (at_plots no_row rows (part_at parts i)) (at_plots None xs (part_at parts i))) → IsLeast rows xs }
+{}
+
+/// The least pairing is a function of the batch's rows: `least_pairing` is a least one wherever its
+/// tracks have indices below the number that it is given, and there is no other.
+pub fn one_least_pairing()
+    ensures is_least { (tracks : ℕ) (rows : List Row) → GateBelow tracks rows → IsLeast rows (least_pairing tracks rows) }
+    ensures only { (rows : List Row) (xs ys : List (Option ℕ)) → IsLeast rows xs → IsLeast rows ys → xs ≡ ys }
+    ensures of_problem { (p : Problem) (xs : List (Option ℕ)) → IsProblem p → IsLeast (rows_of p) xs → xs ≡ least_pairing p.tracks (rows_of p) }
+{}
+
+/// Batches whose rows agree have the same least pairing.
+pub fn alike_batches()
+    ensures { (rows others : List Row) (xs : List (Option ℕ)) → AreAlike rows others → IsLeast rows xs → IsLeast others xs }
+{}
+
+/// The least pairing of a batch, restricted to one of two sets of plots that no track joins, is the
+/// least pairing of that set.
+pub fn least_of_set()
+    ensures { (sides : List Bool) (rows : List Row) (xs : List (Option ℕ)) → length sides ≡ length rows → Apart (part true sides rows) (part false sides rows)
+        → IsLeast rows xs → IsLeast (part true sides rows) (part true sides xs) }
+{}
+
+/// The least pairing of a batch, restricted to a part of it, is the least pairing of the part.
+pub fn least_of_part()
+    ensures { (rows : List Row) (xs : List (Option ℕ)) (parts : List (List ℕ)) → AreParts rows parts → IsLeast rows xs
+        → (i : ℕ) → IsLeast (at_plots no_row rows (part_at parts i)) (at_plots None xs (part_at parts i)) }
 {}

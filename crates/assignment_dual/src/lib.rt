@@ -27,5 +27,8 @@ mod tests;
 mod tie;
 
 pub use costs::{Costs, Solved};
-pub use laws::{disjoint_sets, many_parts, part_of_batch, proven_least, renumbered_tracks};
+pub use laws::{
+    alike_batches, disjoint_sets, least_of_part, least_of_set, many_parts, one_least_pairing,
+    part_of_batch, proven_least, renumbered_tracks,
+};
 pub use solving::solve;

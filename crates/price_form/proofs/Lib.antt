@@ -15,3 +15,5 @@ pub mod GoesOn
 pub mod FrontFaults
 pub mod OneFront
 pub mod Causes
+pub mod InPlace
+pub mod Taking

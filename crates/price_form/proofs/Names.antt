@@ -1,8 +1,7 @@
 -- That no track is named twice, said by places and by recursion.
-use Rattle.std.proofs.Common.{◌≡◌, ◌≢◌, ℕ, suc, zero, ◌+◌, ◌*◌, ◌/◌, ◌<◌, ◌≤◌, List, [], ◌∷◌, Option, Some, None, length, arith, refl, sym, ◌∙◌, subst}
+use Rattle.std.proofs.Common.{◌≡◌, ◌≢◌, ℕ, suc, zero, ◌+◌, ◌<◌, ◌≤◌, List, [], ◌∷◌, Option, Some, None, length, arith, refl, sym, ◌∙◌, subst}
 use Rattle.std.specs.List.{All}
 use Rattle.std.specs.Option.{IfSome}
-use Rattle.std.proofs.lemmas.Nat.{div-add-mod'}
 use Rattle.assignment_dual.specs.Pairings.{Misses, Once}
 use Rattle.price_form.specs.Checks.{entry_at, NamesTwice, NamesOnce}
 
@@ -34,7 +33,7 @@ not_once xs h o = once_at xs o h.first h.second h.track h.before h.inside h.one 
 named_at : (xs : List (Option ℕ)) (tracks : ℕ) → All (λ x. IfSome x (λ t. t < tracks)) xs → (i t : ℕ) → i < length xs → entry_at xs i ≡ Some t → t < tracks
 named_at xs tracks all i t lt e = let P : Option ℕ → Type 0 = λ x. IfSome x (λ s. s < tracks) in subst P e (all i None lt)
 
--- the windows cover all tracks
-pub all_windows : (xs : List (Option ℕ)) (tracks n : ℕ) → All (λ x. IfSome x (λ t. t < tracks)) xs → tracks / 65536 + 1 ≤ n → NamesOnce xs (length xs) 0 (n * 65536) → Once xs
-all_windows xs tracks n all le h =
-    once_from xs (λ i j t lt in' e f. h i j t lt in' (omega arith) (omega (arith, named_at xs tracks all i t (omega (arith, lt, in')) e, div-add-mod' tracks 65536, le)) e f)
+-- the stretches cover all tracks
+pub all_stretches : (xs : List (Option ℕ)) (tracks n : ℕ) → All (λ x. IfSome x (λ t. t < tracks)) xs → tracks ≤ n → NamesOnce xs (length xs) 0 n → Once xs
+all_stretches xs tracks n all le h =
+    once_from xs (λ i j t lt in' e f. h i j t lt in' (omega arith) (omega (arith, named_at xs tracks all i t (omega (arith, lt, in')) e, le)) e f)

@@ -1,5 +1,5 @@
 -- The steps of reading: numbers one by one, and what is refused.
-use Rattle.std.proofs.Common.{◌≡◌, ℕ, ◌+◌, ◌-◌, ◌*◌, ◌<◌, ◌≤◌, List, [], ◌∷◌, ◌++◌, Option, length, arith, sym, ◌∙◌, subst, inl, inr}
+use Rattle.std.proofs.Common.{◌≡◌, ℕ, ◌+◌, ◌-◌, ◌*◌, ◌<◌, ◌≤◌, List, [], ◌∷◌, ◌++◌, Option, Some, None, zero, suc, get_or, length, arith, refl, sym, ◌∙◌, ap, subst, inl, inr}
 use Rattle.std.specs.List.{All}
 use Rattle.std.specs.Option.{IfSome}
 use Rattle.std.proofs.lemmas.Bool.{cases_eq}
@@ -65,3 +65,27 @@ each_more edges P n h here k lt =
 
 pub all_edges : (edges : List Edge) (P : Edge → Type 0) (n : ℕ) → length edges ≤ n → ((k : ℕ) → k < n → P (edge_at edges k)) → All P edges
 all_edges edges P n le h k d lt = subst P (get_or_default edges k (0, 0, 0) d lt) (h k (omega (arith, lt, le)))
+
+-- the edge before index i, if there is one
+pub record IsLast (edges : List Edge) (i : ℕ) (last : Option Edge) : Type 0 where
+  pub first : i ≡ 0 → last ≡ None
+  pub later : 0 < i → last ≡ Some (edge_at edges (i - 1))
+
+pub last_next : (edges : List Edge) (i : ℕ) (e : Edge) → ((d : Edge) → e ≡ get_or edges i d) → IsLast edges (i + 1) (Some e)
+last_next edges i e h = record {
+  first = λ q. absurd (omega (arith, q));
+  later = λ lt. let at : i ≡ i + 1 - 1 = omega arith in ap Some (h (0, 0, 0)) ∙ ap (λ j. Some (edge_at edges j)) at;
+}
+
+-- it stands before the edge at i
+pub last_before : (edges : List Edge) (i : ℕ) (last : Option Edge) (e : Edge) → IsLast edges i last → ((d : Edge) → e ≡ get_or edges i d) → IfSome last (λ f. EdgeBefore f e) → 0 < i → EdgeBefore (edge_at edges (i - 1)) (edge_at edges i)
+last_before edges i last e l h k lt =
+    let j : IfSome (Some (edge_at edges (i - 1))) (λ f. EdgeBefore f e) = subst (λ (o : Option Edge). IfSome o (λ f. EdgeBefore f e)) (l.later lt) k in
+    subst (λ (o : Edge). EdgeBefore (edge_at edges (i - 1)) o) (h (0, 0, 0)) j
+
+-- and where it doesn't, the edges don't rise
+pub last_after : (edges : List Edge) (i : ℕ) (last : Option Edge) (e : Edge) → IsLast edges i last → ((d : Edge) → e ≡ get_or edges i d) → (0 < i → EdgeBefore (edge_at edges (i - 1)) (edge_at edges i)) → IfSome last (λ f. EdgeBefore f e)
+last_after edges zero last e l h k = subst (λ (o : Option Edge). IfSome o (λ f. EdgeBefore f e)) (sym (l.first refl)) tt
+last_after edges (suc i) last e l h k =
+    subst (λ (o : Option Edge). IfSome o (λ f. EdgeBefore f e)) (sym (l.later (omega arith)))
+    (subst (λ (o : Edge). EdgeBefore (edge_at edges (suc i - 1)) o) (sym (h (0, 0, 0))) (k (omega arith)))

@@ -38,8 +38,7 @@ pub record AreFeasible (edges : List Edge) (us vs : List ℤ) : Type 0 where
   pub below_zero : All (λ v. v ≤ℤ pos 0) vs
   pub below_cost : EdgesHold us vs edges
 
--- a mark stands for each track from low on that one of the first n entries names, and for no other
+-- a mark stands for each track of the stretch from low on that one of the first n entries names, and for no other
 pub record AreMarked (xs : List (Option ℕ)) (n low : ℕ) (marks : List Bool) : Type 0 where
-  pub long : length marks ≡ 65536
-  pub named : (i t : ℕ) → i < n → low ≤ t → t < low + 65536 → entry_at xs i ≡ Some t → slice_index_or marks (t - low) false ≡ true
-  pub marked : (place : ℕ) → place < 65536 → slice_index_or marks place false ≡ true → (i : ℕ) × (i < n) × (entry_at xs i ≡ Some (low + place))
+  pub named : (i t : ℕ) → i < n → low ≤ t → t < low + length marks → entry_at xs i ≡ Some t → slice_index_or marks (t - low) false ≡ true
+  pub marked : (index : ℕ) → index < length marks → slice_index_or marks index false ≡ true → (i : ℕ) × (i < n) × (entry_at xs i ≡ Some (low + index))

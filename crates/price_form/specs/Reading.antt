@@ -1,13 +1,14 @@
 -- What stands in octets at a place, and the certificate that is read there.
-use Rattle.std.specs.Prelude.{◌≡◌, ◌<◌, ◌≤◌, ℕ, ◌+◌, ◌*◌, List, length, slice_index}
+use Rattle.std.specs.Prelude.{◌≡◌, ◌<◌, ◌≤◌, ℕ, ◌+◌, ◌*◌, List, [], ◌∷◌, length, slice_index, All, ⊤}
 use Rattle.assignment_dual.specs.Problems.{IsProblem}
 use Rattle.price_form.specs.declared.certs.Cert.{Cert}
 use Rattle.price_form.specs.declared.certs.PriceRecord.{PriceRecord}
+use Rattle.price_form.specs.declared.certs.PriceRecord.TheVariants.{Edition, Cert as Certified}
 use Rattle.price_form.specs.declared.reading.Counts.{Counts}
 use Rattle.price_form.specs.Certificates.{IsCert}
 use Rattle.price_form.specs.Octets.{half_at, word_at, price_number_at, edge_numbers_at, entry_number_at, many_at}
-use Rattle.price_form.specs.Spelling.{record_octets}
-use Rattle.price_form.specs.Files.{IsRecord, StandsAt}
+use Rattle.price_form.specs.Spelling.{cert_octets, record_octets}
+use Rattle.price_form.specs.Files.{ArePrices, IsInRange, IsRecord, StandsAt}
 
 -- the piece stands in the octets from place p on
 pub record Stands (xs : List ℕ) (p : ℕ) (piece : List ℕ) : Type 0 where
@@ -78,3 +79,33 @@ ReadsNone xs p = cert_end xs p ≤ length xs → IsCert (cert_read xs p) → IsP
 -- no record stands at p
 abbrev pub NoRecord : List ℕ → ℕ → Type 0
 NoRecord xs p = (r : PriceRecord) → IsRecord r → Stands xs p (record_octets r) → ⊥
+
+-- the record of this certificate begins at p
+pub record HasCert (xs : List ℕ) (p : ℕ) (c : Cert) : Type 0 where
+  pub formed : IsCert c
+  pub problem : IsProblem c.costs
+  pub fits : IsInRange c
+  pub stands : Stands xs p (cert_octets c)
+
+-- a record stands at p, up to the end
+pub record EndsRecord (xs : List ℕ) (p end : ℕ) : Type 0 where
+  pub stands_there : PriceRecord
+  pub reads : ReadsRecord xs p stands_there end
+
+-- where the certificates among records begin
+abbrev pub offsets_of : List PriceRecord → List ℕ
+offsets_of [] = []
+offsets_of (Edition number cut ∷ rs) = offsets_of rs
+offsets_of (Certified c at ∷ rs) = at ∷ offsets_of rs
+
+-- a certificate's record begins where it tells
+abbrev pub IsThere : List ℕ → PriceRecord → Type 0
+IsThere bytes (Edition number cut) = ⊤
+IsThere bytes (Certified c at) = HasCert bytes at c
+
+-- the octets are a price file, of which the certificates begin at these offsets
+pub record AreOffsets (bytes : List ℕ) (offsets : List ℕ) : Type 0 where
+  pub records : List PriceRecord
+  pub file : ArePrices bytes records
+  pub offsets_are : offsets ≡ offsets_of records
+  pub there : All (IsThere bytes) records

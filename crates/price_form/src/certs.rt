@@ -1,6 +1,6 @@
 use assignment_dual::Costs;
-use std::alloc::AllocFailed;
-use trk_base::{NoMemory, Sequence};
+use std::alloc::{AllocFailed, Global};
+use trk_base::{NoMemory, Sequence, TryCopy};
 
 /// A component of a batch's gate graph, its pairing, and prices that are to prove it.
 #[derive(Debug, Drop, PartialEq, Eq)]
@@ -21,6 +21,21 @@ pub struct Cert {
     pub u: Sequence<i64>,
     /// The price of each track.
     pub v: Sequence<i64>,
+}
+
+impl TryCopy for Cert {
+    fn copy(&self, alloc: Global) -> Result<Cert, NoMemory> {
+        Ok(Cert {
+            slot: self.slot,
+            radar: self.radar,
+            plots: self.plots.copy(alloc)?,
+            tracks: self.tracks.copy(alloc)?,
+            costs: self.costs.copy(alloc)?,
+            pairing: self.pairing.copy(alloc)?,
+            u: self.u.copy(alloc)?,
+            v: self.v.copy(alloc)?,
+        })
+    }
 }
 
 /// A record of a price file.

@@ -1,18 +1,24 @@
+// Whether a certificate proves its pairing, as it stands in plain data or in the octets of a file.
 ghost use Rattle.std.specs.Prelude.{◌≡◌, ◌<◌, ◌≤◌, ◌↔◌, ◌^◌, ℕ, List, Option, IsTrue, IfSome, All, length, pos, ◌≤ℤ◌, ◌<ℤ◌, ◌+ℤ◌, unsigned_abs};
 ghost use Rattle.assignment_dual.specs.Pairings.{IsPairing, cost};
 ghost use Rattle.assignment_dual.specs.Problems.{rows_of, total, Proves};
+ghost use Rattle.price_form.specs.declared.certs.Cert.{Cert};
 ghost use Rattle.price_form.specs.Certificates.{IsCert};
 ghost use Rattle.price_form.specs.Checks.{EdgesHold, AreFeasible, Rises};
+ghost use Rattle.price_form.specs.Reading.{HasCert};
 
 use crate::Cert;
+use crate::columns::{Column, Edges, Entries, Prices};
 use crate::pairs::{MISS, names_once, pairing_cost};
+use crate::reading::counts_of;
 
 /// Whether no price is above `most`.
-fn are_at_most(prices: &[i64], most: i64) -> bool
-    ensures { IsTrue result ↔ All (λ price. price ≤ℤ most) prices.now }
+fn are_at_most<P: Column<i64>>(prices: &P, most: i64) -> bool
+    ensures { IsTrue result ↔ All (λ price. price ≤ℤ most) (P.list prices.now) }
 {
-    for price in prices {
-        if *price > most {
+    for i in 0..prices.len() {
+        let price = prices.at(i);
+        if price > most {
             return false;
         }
     }
@@ -27,13 +33,16 @@ fn are_above(u: i64, v: i64, cost: u16) -> bool
 }
 
 /// Whether no edge costs less than the prices of its plot and its track.
-fn edges_hold(edges: &[(u32, u32, u16)], u: &[i64], v: &[i64]) -> bool
-    requires plots { All (λ e. e.0 < length u.now) edges.now }
-    requires tracks { All (λ e. e.1 < length v.now) edges.now }
-    ensures { IsTrue result ↔ EdgesHold u.now v.now edges.now }
+fn edges_hold<E: Column<(u32, u32, u16)>, P: Column<i64>>(edges: &E, u: &P, v: &P) -> bool
+    requires plots { All (λ e. e.0 < length (P.list u.now)) (E.list edges.now) }
+    requires tracks { All (λ e. e.1 < length (P.list v.now)) (E.list edges.now) }
+    ensures { IsTrue result ↔ EdgesHold (P.list u.now) (P.list v.now) (E.list edges.now) }
 {
-    for (plot, track, cost) in edges {
-        if are_above(u[*plot as usize], v[*track as usize], *cost) {
+    for i in 0..edges.len() {
+        let (plot, track, cost) = edges.at(i);
+        let plot_price = u.at(plot as usize);
+        let track_price = v.at(track as usize);
+        if are_above(plot_price, track_price, cost) {
             return false;
         }
     }
@@ -41,43 +50,44 @@ fn edges_hold(edges: &[(u32, u32, u16)], u: &[i64], v: &[i64]) -> bool
 }
 
 /// The sum of prices. A file may hold prices whose sum has more than 64 bits.
-fn sum_of(prices: &[i64]) -> i128
-    requires { length prices.now < 2 ^ 32 }
-    ensures value { result ≡ total prices.now }
+fn sum_of<P: Column<i64>>(prices: &P) -> i128
+    requires { length (P.list prices.now) < 2 ^ 32 }
+    ensures value { result ≡ total (P.list prices.now) }
     ensures size { unsigned_abs result ≤ 2 ^ 96 }
 {
     let mut sum = 0;
-    for price in prices {
-        sum += i128::from(*price);
+    for i in 0..prices.len() {
+        let price = prices.at(i);
+        sum += i128::from(price);
     }
     sum
 }
 
 /// Whether no plot pays more alone, no track is paid for, and no edge costs less than its prices.
-fn are_feasible(edges: &[(u32, u32, u16)], u: &[i64], v: &[i64]) -> bool
-    requires plots { All (λ e. e.0 < length u.now) edges.now }
-    requires tracks { All (λ e. e.1 < length v.now) edges.now }
-    ensures { IsTrue result ↔ AreFeasible edges.now u.now v.now }
+fn are_feasible<E: Column<(u32, u32, u16)>, P: Column<i64>>(edges: &E, u: &P, v: &P) -> bool
+    requires plots { All (λ e. e.0 < length (P.list u.now)) (E.list edges.now) }
+    requires tracks { All (λ e. e.1 < length (P.list v.now)) (E.list edges.now) }
+    ensures { IsTrue result ↔ AreFeasible (E.list edges.now) (P.list u.now) (P.list v.now) }
 {
     are_at_most(u, MISS as i64) && are_at_most(v, 0) && edges_hold(edges, u, v)
 }
 
 /// Whether the prices prove the pairing.
-fn prove(
-    edges: &[(u32, u32, u16)],
-    pairing: &[Option<u32>],
+fn prove<E: Column<(u32, u32, u16)>, X: Column<Option<u32>>, P: Column<i64>>(
+    edges: &E,
+    pairing: &X,
     tracks: u32,
-    u: &[i64],
-    v: &[i64],
+    u: &P,
+    v: &P,
 ) -> bool
-    requires few { length pairing.now < 2 ^ 32 }
-    requires rising { Rises edges.now }
-    requires plots { All (λ e. e.0 < length pairing.now) edges.now }
-    requires tracks { All (λ e. e.1 < tracks) edges.now }
-    requires named { All (λ x. IfSome x (λ t. t < tracks)) pairing.now }
-    requires plot_prices { length u.now ≡ length pairing.now }
-    requires track_prices { length v.now ≡ tracks }
-    ensures { IsTrue result ↔ Proves (record { plots = length pairing.now; tracks = tracks; edges = edges.now }) pairing.now u.now v.now }
+    requires few { length (X.list pairing.now) < 2 ^ 32 }
+    requires rising { Rises (E.list edges.now) }
+    requires plots { All (λ e. e.0 < length (X.list pairing.now)) (E.list edges.now) }
+    requires tracks { All (λ e. e.1 < tracks) (E.list edges.now) }
+    requires named { All (λ x. IfSome x (λ t. t < tracks)) (X.list pairing.now) }
+    requires plot_prices { length (P.list u.now) ≡ length (X.list pairing.now) }
+    requires track_prices { length (P.list v.now) ≡ tracks }
+    ensures { IsTrue result ↔ Proves (record { plots = length (X.list pairing.now); tracks = tracks; edges = E.list edges.now }) (X.list pairing.now) (P.list u.now) (P.list v.now) }
 {
     if !are_feasible(edges, u, v) {
         return false;
@@ -110,10 +120,41 @@ pub fn check(cert: &Cert) -> bool
     // The number of plots has 32 bits, and so the lists aren't longer.
     let _plots = cert.costs.plots;
     prove(
-        cert.costs.edges.as_slice(),
-        cert.pairing.as_slice(),
+        &cert.costs.edges,
+        &cert.pairing,
         cert.costs.tracks,
-        cert.u.as_slice(),
-        cert.v.as_slice(),
+        &cert.u,
+        &cert.v,
     )
+}
+
+/// Whether the certificate whose record begins at this offset of a price file proves its pairing,
+/// as [`check`] says of it. Its numbers are judged where they stand, so it takes no memory either.
+pub fn check_at(octets: &[u8], at: usize) -> bool
+    requires { (c : Cert) × HasCert octets.now at c }
+    ensures { (c : Cert) → HasCert octets.now at c → IsTrue result ↔ Proves c.costs c.pairing c.u c.v }
+{
+    let counts = counts_of(octets, at);
+    let (plots, tracks) = (counts.plots as usize, counts.tracks as usize);
+    let edges = Edges {
+        octets,
+        from: at + 22 + plots * 8 + tracks * 8,
+        count: counts.edges as usize,
+    };
+    let pairing = Entries {
+        octets,
+        from: edges.from + edges.count * 10,
+        count: plots,
+    };
+    let u = Prices {
+        octets,
+        from: pairing.from + plots * 4,
+        count: plots,
+    };
+    let v = Prices {
+        octets,
+        from: u.from + plots * 8,
+        count: tracks,
+    };
+    prove(&edges, &pairing, counts.tracks, &u, &v)
 }

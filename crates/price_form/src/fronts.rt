@@ -1,12 +1,10 @@
 // The front of a price file of which no more is read.
-ghost use Rattle.std.specs.Prelude.{◌≡◌, ◌<◌, ◌≤◌, ◌+◌, ◌*◌, ◌++◌, ◌^◌, ◌↔◌, ◌⊎◌, ℕ, List, IsTrue, MatchBool, IfOk, All, length};
+ghost use Rattle.std.specs.Prelude.{◌≡◌, ◌<◌, ◌≤◌, ◌+◌, ◌*◌, ◌++◌, ◌^◌, ◌↔◌, ◌⊎◌, ℕ, List, IsTrue, MatchBool, All, length};
 ghost use Rattle.price_form.specs.Files.{IsFault, StopsAt};
 ghost use Rattle.price_form.specs.Fronts.{IsOutOfRange, IsOutOfOrder, IsWrongEdge, HasWrongEdge, IsWrongEntry, HasWrongEntry, HasWrongNumber, IsWrong, record_end, IsFrontFault, HasFrontFault};
 
 use crate::numbers::{edge_at, half_at, short_at};
-use crate::reading::{Counts, MAGIC, MOST, is_before, record_at};
-use std::alloc::Global;
-use trk_base::NoMemory;
+use crate::reading::{Counts, MAGIC, MOST, is_before, record_end};
 
 /// Whether the edge at a place has a number that is whole and out of range.
 fn is_out_of_range(octets: &[u8], at: usize, plots: u32, tracks: u32) -> bool
@@ -139,26 +137,26 @@ fn is_wrong(octets: &[u8], at: usize) -> bool
 ///
 /// It is told at the first octet of a record, where a number that stands whole in the front is
 /// wrong, and at 0 where the front doesn't begin as the four octets do. Else it is the front's end:
-/// where whole records end there, and where a record is cut short by it. The records are read one
-/// after the other, so no more memory is asked for than a record's octets are there for.
-pub fn front_fault(alloc: Global, front: &[u8]) -> Result<usize, NoMemory>
-    ensures { IfOk result (λ offset. IsFrontFault front.now offset) }
+/// where whole records end there, and where a record is cut short by it. The records are judged
+/// where they stand, so no memory is asked for.
+pub fn front_fault(front: &[u8]) -> usize
+    ensures { IsFrontFault front.now result }
 {
     if MAGIC.starts_with(front) {
-        return Ok(front.len());
+        return front.len();
     }
     if !front.starts_with(&MAGIC) {
-        return Ok(0);
+        return 0;
     }
     let mut at = MAGIC.len();
     while at < front.len() {
-        match record_at(alloc, front, at)? {
-            Some((_, end)) => at = end,
-            None if is_wrong(front, at) => return Ok(at),
-            None => return Ok(front.len()),
+        match record_end(front, at) {
+            Some(end) => at = end,
+            None if is_wrong(front, at) => return at,
+            None => return front.len(),
         }
     }
-    Ok(front.len())
+    front.len()
 }
 
 /// Each list of octets has exactly one fault as a front. Where a price file stops and no number that

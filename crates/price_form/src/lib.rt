@@ -14,6 +14,7 @@
 
 mod certs;
 mod checking;
+mod columns;
 mod fronts;
 mod numbers;
 mod pairs;
@@ -23,7 +24,7 @@ mod tests;
 mod writing;
 
 pub use certs::{Cert, PriceRecord, PricesError};
-pub use checking::check;
+pub use checking::{check, check_at};
 pub use fronts::{front_fault, front_fault_stays, one_front_fault};
-pub use reading::{one_price_file, read_prices};
-pub use writing::write_cert;
+pub use reading::{certificate_offsets, one_price_file, read_prices};
+pub use writing::{start_prices, write_cert, write_edition, written_prices};

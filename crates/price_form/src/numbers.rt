@@ -59,6 +59,14 @@ pub(crate) fn words_at(
     Ok(words)
 }
 
+/// The price at a place.
+pub(crate) fn price_at(octets: &[u8], at: usize) -> i64
+    requires { at + 8 ≤ length octets.now }
+    ensures { result ≡ price_number_at octets.now at }
+{
+    word_at(octets, at).cast_signed()
+}
+
 /// The prices from a place on.
 pub(crate) fn prices_at(
     alloc: Global,
@@ -71,7 +79,7 @@ pub(crate) fn prices_at(
 {
     let mut prices = Vec::with_capacity(alloc, count)?;
     for i in 0..count {
-        prices.push(word_at(octets, at + i * 8).cast_signed())?;
+        prices.push(price_at(octets, at + i * 8))?;
     }
     Ok(prices)
 }
@@ -105,7 +113,8 @@ pub(crate) fn edges_at(
     Ok(edges)
 }
 
-fn entry_at(octets: &[u8], at: usize) -> Option<u32>
+/// The track, or none, at a place.
+pub(crate) fn entry_at(octets: &[u8], at: usize) -> Option<u32>
     requires { at + 4 ≤ length octets.now }
     ensures { result ≡ entry_number_at octets.now at }
 {

@@ -1,10 +1,12 @@
 ghost use Rattle.std.specs.Prelude.{◌≡◌, ◌<◌, ◌≤◌, ◌-◌, ◌↔◌, ◌⊎◌, ◌^◌, ℕ, List, IsTrue, MatchOption, MatchResult, IfSome, IfOk, All, length};
 ghost use Rattle.assignment_dual.specs.Problems.{IsProblem};
+ghost use Rattle.price_form.specs.declared.certs.Cert.{Cert};
 ghost use Rattle.price_form.specs.declared.certs.PriceRecord.{PriceRecord};
 ghost use Rattle.assignment_dual.specs.Problems.{EdgeBefore, edge_at};
-ghost use Rattle.price_form.specs.Reading.{end_of, HasCounts, ReadsNone, ReadsCert, NoRecord, ReadsRecord};
+ghost use Rattle.price_form.specs.Reading.{end_of, cert_end, cert_read, HasCert, HasCounts, ReadsNone, ReadsCert, NoRecord, ReadsRecord, EndsRecord, AreOffsets};
 ghost use Rattle.price_form.specs.Files.{ArePrices, IsFault, IfFault};
 
+use crate::columns::{Column, Edges, Entries};
 use crate::numbers::{edges_at, entries_at, half_at, prices_at, word_at, words_at};
 use crate::{Cert, PriceRecord, PricesError};
 use assignment_dual::Costs;
@@ -58,6 +60,20 @@ fn counts_at(octets: &[u8], at: usize) -> Option<Counts>
     Some(counts)
 }
 
+/// The counts of the certificate whose record begins at a place.
+pub(crate) fn counts_of(octets: &[u8], at: usize) -> Counts
+    requires { (c : Cert) × HasCert octets.now at c }
+    ensures { HasCounts octets.now at result }
+{
+    let plots = half_at(octets, at + 10);
+    let tracks = half_at(octets, at + 14);
+    Counts {
+        plots,
+        tracks,
+        edges: half_at(octets, at + 18 + plots as usize * 8 + tracks as usize * 8),
+    }
+}
+
 impl Counts {
     /// Where a certificate of these counts ends that begins at a place.
     fn end(self, at: usize) -> usize
@@ -82,36 +98,42 @@ fn is_edge(edge: (u32, u32, u16), plots: u32, tracks: u32) -> bool
     edge.0 < plots && edge.1 < tracks && edge.2 <= MOST
 }
 
-/// Whether the edge at a place stands behind the one before it.
-fn follows(edges: &[(u32, u32, u16)], i: usize) -> bool
-    requires { i < length edges.now }
-    ensures { IsTrue result ↔ (0 < i → EdgeBefore (edge_at edges.now (i - 1)) (edge_at edges.now i)) }
-{
-    i == 0 || is_before(edges[i - 1], edges[i])
-}
-
 /// Whether edges strictly rise, their places are in range and their costs are at most 4,096.
-fn are_edges(edges: &[(u32, u32, u16)], plots: u32, tracks: u32) -> bool
-    ensures { IsTrue result ↔ IsProblem (record { plots = plots; tracks = tracks; edges = edges.now }) }
+fn are_edges<E: Column<(u32, u32, u16)>>(edges: &E, plots: u32, tracks: u32) -> bool
+    ensures { IsTrue result ↔ IsProblem (record { plots = plots; tracks = tracks; edges = E.list edges.now }) }
 {
-    for (i, edge) in edges.iter().enumerate() {
-        if !is_edge(*edge, plots, tracks) {
+    let mut last = None;
+    for i in 0..edges.len() {
+        let edge = edges.at(i);
+        if !is_edge(edge, plots, tracks) {
             return false;
         }
-        if !follows(edges, i) {
+        if !follows(last, edge) {
             return false;
         }
+        last = Some(edge);
     }
     true
 }
 
-/// Whether each track that is named is below a number.
-fn name_below(pairing: &[Option<u32>], tracks: u32) -> bool
-    ensures { IsTrue result ↔ All (λ x. IfSome x (λ t. t < tracks)) pairing.now }
+/// Whether an edge stands after the one before it, if there is one.
+fn follows(last: Option<(u32, u32, u16)>, edge: (u32, u32, u16)) -> bool
+    ensures { IsTrue result ↔ IfSome last (λ e. EdgeBefore e edge) }
 {
-    for entry in pairing {
+    match last {
+        None => true,
+        Some(last) => is_before(last, edge),
+    }
+}
+
+/// Whether each track that is named is below a number.
+fn name_below<X: Column<Option<u32>>>(pairing: &X, tracks: u32) -> bool
+    ensures { IsTrue result ↔ All (λ x. IfSome x (λ t. t < tracks)) (X.list pairing.now) }
+{
+    for i in 0..pairing.len() {
+        let entry = pairing.at(i);
         if let Some(track) = entry
-            && *track >= tracks
+            && track >= tracks
         {
             return false;
         }
@@ -119,31 +141,47 @@ fn name_below(pairing: &[Option<u32>], tracks: u32) -> bool
     true
 }
 
-/// The certificate at a place, if there is one, and where it ends.
-fn cert_at(alloc: Global, octets: &[u8], at: usize) -> Result<Option<(Cert, usize)>, NoMemory>
+/// The counts of the certificate at a place, if there is one. It is judged where it stands.
+fn cert_counts(octets: &[u8], at: usize) -> Option<Counts>
     requires { at ≤ length octets.now }
-    ensures { IfOk result (λ o. MatchOption o (ReadsNone octets.now at) (λ r. ReadsCert octets.now at r.0 r.1)) }
+    ensures { MatchOption result (ReadsNone octets.now at) (λ cs. HasCounts octets.now at cs × ReadsCert octets.now at (cert_read octets.now at) (cert_end octets.now at)) }
 {
-    let counts = match counts_at(octets, at) {
-        None => return Ok(None),
-        Some(counts) => counts,
+    let Some(counts) = counts_at(octets, at) else {
+        return None;
     };
+    let edges = Edges {
+        octets,
+        from: at + 22 + counts.plots as usize * 8 + counts.tracks as usize * 8,
+        count: counts.edges as usize,
+    };
+    if !are_edges(&edges, counts.plots, counts.tracks) {
+        return None;
+    }
+    let pairing = Entries {
+        octets,
+        from: edges.from + edges.count * 10,
+        count: counts.plots as usize,
+    };
+    if !name_below(&pairing, counts.tracks) {
+        return None;
+    }
+    Some(counts)
+}
+
+/// The certificate of these counts at a place.
+fn cert_at(alloc: Global, octets: &[u8], at: usize, counts: Counts) -> Result<Cert, NoMemory>
+    requires counts { HasCounts octets.now at counts }
+    requires stands { ReadsCert octets.now at (cert_read octets.now at) (cert_end octets.now at) }
+    ensures { IfOk result (λ c. c ≡ cert_read octets.now at) }
+{
     let (n, k, m) = (
         counts.plots as usize,
         counts.tracks as usize,
         counts.edges as usize,
     );
     let edges_from = at + 22 + n * 8 + k * 8;
-    let edges = edges_at(alloc, octets, edges_from, m)?;
-    let pairing = entries_at(alloc, octets, edges_from + m * 10, n)?;
-    if !are_edges(&edges, counts.plots, counts.tracks) {
-        return Ok(None);
-    }
-    if !name_below(&pairing, counts.tracks) {
-        return Ok(None);
-    }
     let prices_from = edges_from + m * 10 + n * 4;
-    let cert = Cert {
+    Ok(Cert {
         slot: word_at(octets, at + 1),
         radar: octets[at + 9],
         plots: Sequence::of(words_at(alloc, octets, at + 18, n)?),
@@ -151,17 +189,38 @@ fn cert_at(alloc: Global, octets: &[u8], at: usize) -> Result<Option<(Cert, usiz
         costs: Costs {
             plots: counts.plots,
             tracks: counts.tracks,
-            edges: Sequence::of(edges),
+            edges: Sequence::of(edges_at(alloc, octets, edges_from, m)?),
         },
-        pairing: Sequence::of(pairing),
+        pairing: Sequence::of(entries_at(alloc, octets, edges_from + m * 10, n)?),
         u: Sequence::of(prices_at(alloc, octets, prices_from, n)?),
         v: Sequence::of(prices_at(alloc, octets, prices_from + n * 8, k)?),
-    };
-    Ok(Some((cert, counts.end(at))))
+    })
+}
+
+/// Where the record at a place ends, if there is one.
+pub(crate) fn record_end(octets: &[u8], at: usize) -> Option<usize>
+    requires { at < length octets.now }
+    ensures { MatchOption result (NoRecord octets.now at) (EndsRecord octets.now at) }
+{
+    match octets[at] {
+        1 => {
+            if octets.len() - at < 17 {
+                return None;
+            }
+            Some(at + 17)
+        }
+        2 => {
+            let Some(counts) = cert_counts(octets, at) else {
+                return None;
+            };
+            Some(counts.end(at))
+        }
+        _ => None,
+    }
 }
 
 /// The record at a place, if there is one, and where it ends.
-pub(crate) fn record_at(
+fn record_at(
     alloc: Global,
     octets: &[u8],
     at: usize,
@@ -178,10 +237,13 @@ pub(crate) fn record_at(
             let cut = word_at(octets, at + 9);
             Ok(Some((PriceRecord::Edition { number, cut }, at + 17)))
         }
-        2 => match cert_at(alloc, octets, at)? {
-            None => Ok(None),
-            Some((cert, end)) => Ok(Some((PriceRecord::Cert { cert, at }, end))),
-        },
+        2 => {
+            let Some(counts) = cert_counts(octets, at) else {
+                return Ok(None);
+            };
+            let cert = cert_at(alloc, octets, at, counts)?;
+            Ok(Some((PriceRecord::Cert { cert, at }, counts.end(at))))
+        }
         _ => Ok(None),
     }
 }
@@ -211,6 +273,30 @@ pub fn read_prices(alloc: Global, bytes: &[u8]) -> Result<Vec<PriceRecord>, Pric
         }
     }
     Ok(records)
+}
+
+/// Where the record of each certificate of a price file begins, in order.
+///
+/// The grammar of the whole file is judged, and a fault is told as by [`read_prices`], but no
+/// certificate is taken out of the octets: [`check_at`](crate::check_at) judges them where they stand.
+pub fn certificate_offsets(alloc: Global, bytes: &[u8]) -> Result<Vec<usize>, PricesError>
+    ensures { MatchResult result (λ v. AreOffsets bytes.now v.items) (IfFault bytes.now) }
+{
+    if !bytes.starts_with(&MAGIC) {
+        return Err(PricesError::Fault { offset: 0 });
+    }
+    let mut offsets = Vec::new(alloc);
+    let mut at = MAGIC.len();
+    while at < bytes.len() {
+        let Some(end) = record_end(bytes, at) else {
+            return Err(PricesError::Fault { offset: at });
+        };
+        if bytes[at] == 2 {
+            offsets.push(at)?;
+        }
+        at = end;
+    }
+    Ok(offsets)
 }
 
 /// Each list of octets is a price file, in one way, or has one fault.

@@ -1,10 +1,15 @@
-ghost use Rattle.std.specs.Prelude.{◌≡◌, ◌<◌, ◌^◌, ◌++◌, IfOk, OnOk, length};
+ghost use Rattle.std.specs.Prelude.{◌≡◌, ◌<◌, ◌^◌, ◌++◌, List, All, IfOk, OnOk, length};
+ghost use Rattle.std.specs.List.{flat_map};
 ghost use Rattle.std.specs.Int.{w32, w64, to_be_bytes};
 ghost use Rattle.price_form.specs.Certificates.{IsCert};
-ghost use Rattle.price_form.specs.Spelling.{head_octets, gate_octets, proof_octets, cert_octets};
+ghost use Rattle.price_form.specs.declared.certs.PriceRecord.{PriceRecord};
+ghost use Rattle.price_form.specs.declared.certs.PriceRecord.TheVariants.{Edition};
+ghost use Rattle.price_form.specs.Spelling.{head_octets, gate_octets, proof_octets, cert_octets, record_octets};
+ghost use Rattle.price_form.specs.Files.{magic, IsRecord, StandFrom, ArePrices};
 
 use crate::Cert;
 use crate::numbers::{put_edges, put_entries, put_prices, put_words};
+use crate::reading::MAGIC;
 use std::alloc::Global;
 use trk_base::NoMemory;
 
@@ -69,6 +74,24 @@ fn put_proof(
     put_prices(out, v)
 }
 
+/// What a price file begins with, `MRP1`. Its records follow.
+pub fn start_prices() -> [u8; 4]
+    ensures { result ≡ magic }
+{
+    MAGIC
+}
+
+/// An edition's record of a price file: its number, and how many events of the log it covers.
+pub fn write_edition(alloc: Global, number: u64, cut: u64) -> Result<Vec<u8>, NoMemory>
+    ensures { IfOk result (λ v. v.items ≡ record_octets (Edition number cut)) }
+{
+    let mut out = Vec::with_capacity(alloc, 17)?;
+    out.push(1)?;
+    put_word(&mut out, number)?;
+    put_word(&mut out, cut)?;
+    Ok(out)
+}
+
 /// A certificate's record of a price file.
 pub fn write_cert(alloc: Global, cert: &Cert) -> Result<Vec<u8>, NoMemory>
     requires { IsCert cert.now }
@@ -96,3 +119,9 @@ pub fn write_cert(alloc: Global, cert: &Cert) -> Result<Vec<u8>, NoMemory>
     )?;
     Ok(out)
 }
+
+/// The four octets and, after them, what is written of each record, are the price file of these
+/// records: [`read_prices`](crate::read_prices) reads them.
+pub fn written_prices()
+    ensures { (records : List PriceRecord) → All IsRecord records → StandFrom 4 records → ArePrices (magic ++ flat_map record_octets records) records }
+{}

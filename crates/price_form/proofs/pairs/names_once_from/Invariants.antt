@@ -1,9 +1,12 @@
+use Rattle.std.proofs.Common.{◌≡◌, ◌+◌, length}
 use Rattle.price_form.specs.Checks.{AreMarked, NamesOnce}
-use Rattle.std.proofs.Common.{◌+◌}
 use Rattle.price_form.proofs.pairs.names_once_from.Given as goal
 
-abbrev pub invariant-loop-track : goal.invariant-loop-track
-invariant-loop-track l = record {
-  marked : AreMarked l.pairing l.track-index l.low l.named;
-  once : NamesOnce l.pairing l.track-index l.low (l.low + 65536);
-}
+abbrev pub invariant-loop-i : goal.invariant-loop-i
+invariant-loop-i g l =
+    let pairing = g.X.Column.list l.pairing in
+    record {
+      long : length l.named ≡ length l.fn.named;
+      marked : AreMarked pairing l.i l.low l.named;
+      once : NamesOnce pairing l.i l.low (l.low + length l.fn.named);
+    }
