@@ -1,8 +1,8 @@
 pub mod Heads
 pub mod Readings
 pub mod Pushed
-pub mod Settings
-pub mod Fronts
+pub mod Packings
+pub mod Prefixes
 pub mod Walked
 pub mod Codes
 pub mod ItemCodes

@@ -1,12 +1,13 @@
 pub mod Blocks
-pub mod Places
+pub mod Offsets
 pub mod Answers
-pub mod Groups
+pub mod Packing
+pub mod Causes
 pub mod Tables
 pub mod Values
 pub mod Presence
 pub mod Names
-pub mod Parts
+pub mod Elements
 pub mod Items
 pub mod Records
 pub mod DataRecords

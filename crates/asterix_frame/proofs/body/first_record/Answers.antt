@@ -2,31 +2,31 @@ use Rattle.std.proofs.Common.{sym, subst}
 use Rattle.std.specs.Prelude.{All}
 use Rattle.asterix_frame.specs.Bodies.{IsSpan}
 use Rattle.asterix_frame.proofs.Placed.{walk_spans}
-use Rattle.asterix_frame.proofs.Bodies.{late_from, record_from, refused_from, only_record, record_or_fault, same_fault_from}
+use Rattle.asterix_frame.proofs.Bodies.{out_of_range_from, record_from, refused_from, only_record, record_or_fault, same_fault_from}
 use Rattle.asterix_frame.proofs.body.first_record.Goals as goal
 
-pub late_time-requires : goal.late_time-requires
-late_time-requires c =
+pub time_out_of_range-requires : goal.time_out_of_range-requires
+time_out_of_range-requires c =
     let walk = c.in_ok-frns.field-0 in
     subst (λ found. All (IsSpan c.args.block.now.body.now) found) (sym c.deref.ensures.value) (walk_spans c.args.uap c.args.block.now.body.now c.args.from c.args.block.now.at walk.frns.items walk.end c.in_ok-frns.ensures.walks)
 
--- ---- a late time
+-- ---- a out_of_range time
 
 pub returns-in-Some-clause-malformed : goal.returns-in-Some-clause-malformed
 returns-in-Some-clause-malformed c =
     let walk = c.in_ok-frns.field-0 in
-    late_from c.args.uap c.args.block.now c.args.from walk.frns.items c.deref.result.now walk.end c.in-Some.first c.in_ok-frns.ensures.walks c.deref.ensures.value c.in-Some.ensures.late
+    out_of_range_from c.args.uap c.args.block.now c.args.from walk.frns.items c.deref.result.now walk.end c.in-Some.first c.in_ok-frns.ensures.walks c.deref.ensures.value c.in-Some.ensures.out_of_range
 
 pub returns-in-Some-clause-reads : goal.returns-in-Some-clause-reads
 returns-in-Some-clause-reads c = λ r rest is e.
     let walk = c.in_ok-frns.field-0 in
-    let fault = late_from c.args.uap c.args.block.now c.args.from walk.frns.items c.deref.result.now walk.end c.in-Some.first c.in_ok-frns.ensures.walks c.deref.ensures.value c.in-Some.ensures.late in
+    let fault = out_of_range_from c.args.uap c.args.block.now c.args.from walk.frns.items c.deref.result.now walk.end c.in-Some.first c.in_ok-frns.ensures.walks c.deref.ensures.value c.in-Some.ensures.out_of_range in
     record_or_fault c.args.uap c.args.block.now c.args.from _ r rest fault is e
 
 pub returns-in-Some-clause-refuses : goal.returns-in-Some-clause-refuses
 returns-in-Some-clause-refuses c = λ m other.
     let walk = c.in_ok-frns.field-0 in
-    let fault = late_from c.args.uap c.args.block.now c.args.from walk.frns.items c.deref.result.now walk.end c.in-Some.first c.in_ok-frns.ensures.walks c.deref.ensures.value c.in-Some.ensures.late in
+    let fault = out_of_range_from c.args.uap c.args.block.now c.args.from walk.frns.items c.deref.result.now walk.end c.in-Some.first c.in_ok-frns.ensures.walks c.deref.ensures.value c.in-Some.ensures.out_of_range in
     same_fault_from c.args.uap c.args.block.now c.args.from _ m fault other
 
 -- ---- a record

@@ -2,17 +2,17 @@
 use Rattle.std.proofs.Common.{◌≡◌, ◌≢◌, ◌∙◌, ap, sym, inl, inr, ℕ, ◌+◌, ◌<◌, ◌≤◌, ◌⊎◌, List, [], ◌∷◌, ◌++◌, length, arith, refl, length-append, subst}
 use Rattle.std.specs.List.{concat}
 use Rattle.std.proofs.lemmas.List.Folds.{concat-append}
-use Rattle.asterix_frame.specs.declared.writer.TheConstants.{BLOCK_LIMIT}
-use Rattle.asterix_frame.specs.Groups.{AreFilled, ungrouped, block_size}
+use Rattle.asterix_frame.specs.Packing.{block_limit}
+use Rattle.asterix_frame.specs.Packing.{AreFilled, ungrouped, block_size}
 
 -- two lists with the same continuation differ only in how far they go
-record GoesOn (short long rest rest' : List (List ℕ)) : Type 0 where
+record Continues (short long rest rest' : List (List ℕ)) : Type 0 where
   next : List ℕ
   more : List (List ℕ)
   long_is : long ≡ short ++ next ∷ more
   rest_is : rest ≡ next ∷ more ++ rest'
 
-overlap : (g h x y : List (List ℕ)) → g ++ x ≡ h ++ y → ((g ≡ h) × (x ≡ y)) ⊎ (GoesOn g h x y ⊎ GoesOn h g y x)
+overlap : (g h x y : List (List ℕ)) → g ++ x ≡ h ++ y → ((g ≡ h) × (x ≡ y)) ⊎ (Continues g h x y ⊎ Continues h g y x)
 overlap [] [] x y e = inl (refl, e)
 overlap [] (r ∷ h) x y e = inr (inl (record { next = r; more = h; long_is = refl; rest_is = e }))
 overlap (r ∷ g) [] x y e = inr (inr (record { next = r; more = g; long_is = refl; rest_is = sym e }))
@@ -25,7 +25,7 @@ overlap (r ∷ g) (s ∷ h) x y e =
       | inr (inr on) ↦ inr (inr (record { next = on.next; more = on.more; long_is = (λ i. head i ∷ on.long_is i); rest_is = on.rest_is }))
     ]
 
-fits : (g : List (List ℕ)) (gs : List (List (List ℕ))) → AreFilled (g ∷ gs) → block_size g ≤ BLOCK_LIMIT
+fits : (g : List (List ℕ)) (gs : List (List (List ℕ))) → AreFilled (g ∷ gs) → block_size g ≤ block_limit
 fits g [] h = h.1
 fits g ([] ∷ gs) h = absurd h
 fits g ((r ∷ rs) ∷ gs) h = h.1
@@ -40,30 +40,30 @@ not_empty g [] h = h.0
 not_empty g ([] ∷ gs) h = absurd h
 not_empty g ((r ∷ rs) ∷ gs) h = h.0
 
--- the record behind a group has no room in it
-no_room : (g : List (List ℕ)) (gs : List (List (List ℕ))) (r : List ℕ) (more : List (List ℕ)) → AreFilled (g ∷ gs) → ungrouped gs ≡ r ∷ more → BLOCK_LIMIT < block_size g + length r
+-- the record after a group has no room in it
+no_room : (g : List (List ℕ)) (gs : List (List (List ℕ))) (r : List ℕ) (more : List (List ℕ)) → AreFilled (g ∷ gs) → ungrouped gs ≡ r ∷ more → block_limit < block_size g + length r
 no_room g [] r more h e = absurd cc
 no_room g ([] ∷ gs) r more h e = absurd h
 no_room g ((s ∷ rs) ∷ gs) r more h e =
     let same : s ≡ r = cc in
-    subst (λ (t : List ℕ). BLOCK_LIMIT < block_size g + length t) same h.2
+    subst (λ (t : List ℕ). block_limit < block_size g + length t) same h.2
 
-no_longer : (g h : List (List ℕ)) (gs hs : List (List (List ℕ))) → AreFilled (g ∷ gs) → AreFilled (h ∷ hs) → GoesOn g h (ungrouped gs) (ungrouped hs) → ⊥
+no_longer : (g h : List (List ℕ)) (gs hs : List (List (List ℕ))) → AreFilled (g ∷ gs) → AreFilled (h ∷ hs) → Continues g h (ungrouped gs) (ungrouped hs) → ⊥
 no_longer g h gs hs fg fh on =
     let over = no_room g gs on.next (on.more ++ ungrouped hs) fg on.rest_is in
     let size : length (concat h) ≡ length (concat g) + length (concat (on.next ∷ on.more)) =
     ap (λ (t : List (List ℕ)). length (concat t)) on.long_is ∙ ap length (concat-append g (on.next ∷ on.more)) ∙ length-append (concat g) (concat (on.next ∷ on.more)) in
     omega (arith, over, size, fits h hs fh, length-append on.next (concat on.more))
 
-pub one_setting : (gs hs : List (List (List ℕ))) → AreFilled gs → AreFilled hs → ungrouped gs ≡ ungrouped hs → gs ≡ hs
-one_setting [] [] fg fh e = refl
-one_setting [] ([] ∷ hs) fg fh e = absurd (not_empty [] hs fh refl)
-one_setting [] ((r ∷ h) ∷ hs) fg fh e = absurd cc
-one_setting ([] ∷ gs) [] fg fh e = absurd (not_empty [] gs fg refl)
-one_setting ((r ∷ g) ∷ gs) [] fg fh e = absurd cc
-one_setting (g ∷ gs) (h ∷ hs) fg fh e =
+pub one_packing : (gs hs : List (List (List ℕ))) → AreFilled gs → AreFilled hs → ungrouped gs ≡ ungrouped hs → gs ≡ hs
+one_packing [] [] fg fh e = refl
+one_packing [] ([] ∷ hs) fg fh e = absurd (not_empty [] hs fh refl)
+one_packing [] ((r ∷ h) ∷ hs) fg fh e = absurd cc
+one_packing ([] ∷ gs) [] fg fh e = absurd (not_empty [] gs fg refl)
+one_packing ((r ∷ g) ∷ gs) [] fg fh e = absurd cc
+one_packing (g ∷ gs) (h ∷ hs) fg fh e =
     elim (overlap g h (ungrouped gs) (ungrouped hs) e) [
-      | inl same ↦ (let rest = one_setting gs hs (others g gs fg) (others h hs fh) same.1 in (λ i. same.0 i ∷ rest i))
+      | inl same ↦ (let rest = one_packing gs hs (others g gs fg) (others h hs fh) same.1 in (λ i. same.0 i ∷ rest i))
       | inr (inl on) ↦ absurd (no_longer g h gs hs fg fh on)
       | inr (inr on) ↦ absurd (no_longer h g hs gs fh fg on)
     ]
@@ -72,7 +72,7 @@ size_grow : (g : List (List ℕ)) (r : List ℕ) → block_size (g ++ r ∷ []) 
 size_grow g r = omega (arith, ap length (concat-append g (r ∷ [])), length-append (concat g) (concat (r ∷ [])), length-append r [])
 
 -- the last group takes one more record
-pub filled_grow : (gs : List (List (List ℕ))) (g : List (List ℕ)) (r : List ℕ) → AreFilled (gs ++ g ∷ []) → block_size g + length r ≤ BLOCK_LIMIT → AreFilled (gs ++ (g ++ r ∷ []) ∷ [])
+pub filled_grow : (gs : List (List (List ℕ))) (g : List (List ℕ)) (r : List ℕ) → AreFilled (gs ++ g ∷ []) → block_size g + length r ≤ block_limit → AreFilled (gs ++ (g ++ r ∷ []) ∷ [])
 filled_grow [] [] r h room = absurd (h.0 refl)
 filled_grow [] (s ∷ g) r h room = ((λ e. cc), omega (arith, room, size_grow (s ∷ g) r))
 filled_grow (f ∷ []) [] r h room = absurd h
@@ -81,7 +81,7 @@ filled_grow (f ∷ [] ∷ gs) g r h room = absurd h
 filled_grow (f ∷ (s ∷ e) ∷ gs) g r h room = (h.0, h.1, h.2, filled_grow ((s ∷ e) ∷ gs) g r h.3 room)
 
 -- a record without room in the last group begins the next one
-pub filled_open : (gs : List (List (List ℕ))) (g : List (List ℕ)) (r : List ℕ) → AreFilled (gs ++ g ∷ []) → BLOCK_LIMIT < block_size g + length r → length r + 3 ≤ BLOCK_LIMIT → AreFilled (gs ++ g ∷ (r ∷ []) ∷ [])
+pub filled_open : (gs : List (List (List ℕ))) (g : List (List ℕ)) (r : List ℕ) → AreFilled (gs ++ g ∷ []) → block_limit < block_size g + length r → length r + 3 ≤ block_limit → AreFilled (gs ++ g ∷ (r ∷ []) ∷ [])
 filled_open [] g r h full small = (h.0, h.1, full, ((λ e. cc), omega (arith, small, length-append r [])))
 filled_open (f ∷ []) [] r h full small = absurd h
 filled_open (f ∷ []) (s ∷ g) r h full small = (h.0, h.1, h.2, filled_open [] (s ∷ g) r h.3 full small)
@@ -89,5 +89,5 @@ filled_open (f ∷ [] ∷ gs) g r h full small = absurd h
 filled_open (f ∷ (s ∷ e) ∷ gs) g r h full small = (h.0, h.1, h.2, filled_open ((s ∷ e) ∷ gs) g r h.3 full small)
 
 -- the first record of all
-pub filled_first : (r : List ℕ) → length r + 3 ≤ BLOCK_LIMIT → AreFilled ((r ∷ []) ∷ [])
+pub filled_first : (r : List ℕ) → length r + 3 ≤ block_limit → AreFilled ((r ∷ []) ∷ [])
 filled_first r small = ((λ e. cc), omega (arith, small, length-append r []))

@@ -5,7 +5,7 @@ use Rattle.trk_base.specs.Numbers.{day}
 use Rattle.asterix_frame.specs.Bodies.{IsSpan, span_of}
 use Rattle.asterix_frame.proofs.Placed.{span_within}
 use Rattle.asterix_frame.proofs.Bodies.{no_time, time_at}
-use Rattle.asterix_frame.proofs.body.late_time.Goals as goal
+use Rattle.asterix_frame.proofs.body.time_out_of_range.Goals as goal
 
 pub returns-in_err-first-clause-early : goal.returns-in_err-first-clause-early
 returns-in_err-first-clause-early c =
