@@ -48,7 +48,7 @@ module _ (uap : Uap) where
 
   -- ---- there is one
 
-  -- the time of day among the items found is below a day, or there is a out_of_range one
+  -- the time of day among the items found is below a day, or there is one out of range
   module _ (body : List ℕ) (found : List (ℕ × ℕ × ℕ)) (spans : AllByRecursion (IsSpan body) found) where
     abbrev OutOfRange : Type 0
     OutOfRange = (first : ℕ) × IsTimeOutOfRange uap body found first
@@ -131,7 +131,7 @@ module _ (uap : Uap) where
   refused_from block from found seen end m h w is e t =
       fault_from block from found m (refused uap block.body.now from block.at found m h (subst (λ end. Walks (table_of uap) block.at block.body.now from found end) is w) (early_at block.body.now found seen e t))
 
-  -- a offset begins one record at most, or has one fault
+  -- an offset begins one record at most, or has one fault
   pub only_record : (body : List ℕ) (from : ℕ) (s : ItemSpans) (r : DataRecord) (rest : List ℕ) → (q : DataRecord) × HasDataRecord uap body from q s → IsDataRecord uap r → drop from body ≡ record_octets r ++ rest → HasDataRecord uap body from r s
   only_record body from s r rest (q, h) k e =
       let same = (record_code uap).same q r (drop s.next body) rest h.is_record k (sym h.octets ∙ e) in
@@ -163,7 +163,7 @@ module _ (uap : Uap) where
   have_items body from (q ∷ qs) [] h = absurd h
   have_items body from (q ∷ qs) (t ∷ ts) h = let next = have_items body t.next qs ts h.1 in λ i. h.0.items i ∷ next i
 
-  -- the records before a offset, as they were found
+  -- the records before an offset, as they were found
   pub record SoFar (body : List ℕ) (from : ℕ) (found : List ItemSpans) : Type 0 where
     pub prefix : List DataRecord
     pub are_records : AreDataRecords uap prefix

@@ -12,6 +12,8 @@ pub mod Sequences
 pub mod DataItems
 pub mod Placed
 pub mod DataRecordCodes
+pub mod Encodings
+pub mod Drafts
 pub mod Bodies
 pub mod Mapped
 pub mod Refusals

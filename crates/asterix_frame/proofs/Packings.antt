@@ -1,9 +1,12 @@
 -- Records have at most one setting in filled blocks, and how one is built record by record.
-use Rattle.std.proofs.Common.{◌≡◌, ◌≢◌, ◌∙◌, ap, sym, inl, inr, ℕ, ◌+◌, ◌<◌, ◌≤◌, ◌⊎◌, List, [], ◌∷◌, ◌++◌, length, arith, refl, length-append, subst}
+use Rattle.std.proofs.Common.{◌≡◌, ◌≢◌, ◌∙◌, ap, sym, inl, inr, ℕ, ◌+◌, ◌<◌, ◌≤◌, ◌⊎◌, List, [], ◌∷◌, ◌++◌, length, arith, refl, length-append, subst, append_assoc, append-nil}
 use Rattle.std.specs.List.{concat}
+use Rattle.std.specs.Prelude.{map}
+use Rattle.std.proofs.lemmas.List.{map-append}
 use Rattle.std.proofs.lemmas.List.Folds.{concat-append}
-use Rattle.asterix_frame.specs.Packing.{block_limit}
-use Rattle.asterix_frame.specs.Packing.{AreFilled, ungrouped, block_size}
+use Rattle.std.proofs.lemmas.List.Concat.{flat_map-append}
+use Rattle.asterix_frame.specs.Blocks.{DataBlock, encoded}
+use Rattle.asterix_frame.specs.Packing.{block_limit, AreFilled, ungrouped, block_size, packed_block, ArePacked, Packed, IsPackingOf}
 
 -- two lists with the same continuation differ only in how far they go
 record Continues (short long rest rest' : List (List ℕ)) : Type 0 where
@@ -91,3 +94,96 @@ filled_open (f ∷ (s ∷ e) ∷ gs) g r h full small = (h.0, h.1, h.2, filled_o
 -- the first record of all
 pub filled_first : (r : List ℕ) → length r + 3 ≤ block_limit → AreFilled ((r ∷ []) ∷ [])
 filled_first r small = ((λ e. cc), omega (arith, small, length-append r []))
+
+-- ---- records packed one after the other
+
+concat_push : (rs : List (List ℕ)) (r : List ℕ) → concat (rs ++ r ∷ []) ≡ concat rs ++ r
+concat_push rs r = concat-append rs (r ∷ []) ∙ ap (λ t. concat rs ++ t) (append-nil r)
+
+ungrouped_push : (gs : List (List (List ℕ))) (g : List (List ℕ)) → ungrouped (gs ++ g ∷ []) ≡ ungrouped gs ++ g
+ungrouped_push gs g = flat_map-append (λ group. group) gs (g ∷ []) ∙ ap (λ t. ungrouped gs ++ t) (append-nil g)
+
+module _ (category : ℕ) where
+  abbrev Body : List ℕ → DataBlock
+  Body octets = record { category = category; body = octets }
+
+  blocks_push : (gs : List (List (List ℕ))) (g : List (List ℕ)) → map (packed_block category) (gs ++ g ∷ []) ≡ map (packed_block category) gs ++ packed_block category g ∷ []
+  blocks_push gs g = map-append (packed_block category) gs (g ∷ [])
+
+  size_of : (block : DataBlock) (last : List (List ℕ)) → block ≡ Body (concat last) → length block.body ≡ length (concat last)
+  size_of block last e = ap (λ b. length b.body) e
+
+  -- the last block takes the record
+  pub packing_grow : (records : List (List ℕ)) (p : Packed) (r : List ℕ) → IsPackingOf category records p → 0 < length r → length p.last.body + length r + 3 ≤ block_limit
+      → IsPackingOf category (records ++ r ∷ []) (record { full = p.full; last = record p.last { body = p.last.body ++ r } })
+  packing_grow records p r s some room =
+      let size = size_of p.last s.in_last s.last_is in
+      record {
+        groups = s.groups;
+        in_last = s.in_last ++ r ∷ [];
+        filled = inr (
+          elim s.filled [
+            | inl none ↦ rw (none.0, none.1) (filled_first r (omega arith))
+            | inr filled ↦ filled_grow s.groups s.in_last r filled.0 (omega (arith, size))
+          ],
+          omega (arith, ap length (concat_push s.in_last r), length-append (concat s.in_last) r),
+        );
+        all = sym (append_assoc (ungrouped s.groups) s.in_last (r ∷ [])) ∙ ap (λ t. t ++ r ∷ []) s.all;
+        full_is = s.full_is;
+        last_is = ap (λ (b : DataBlock). record b { body = b.body ++ r }) s.last_is ∙ ap Body (sym (concat_push s.in_last r));
+      }
+
+  -- the octets of the last block
+  last_octets : (records : List (List ℕ)) (p : Packed) (octets : List ℕ) (s : IsPackingOf category records p) → octets ≡ encoded p.last → octets ≡ packed_block category s.in_last
+  last_octets records p octets s e = e ∙ ap encoded s.last_is
+
+  pub last_category : (records : List (List ℕ)) (p : Packed) → IsPackingOf category records p → p.last.category ≡ category
+  last_category records p s = ap (λ b. b.category) s.last_is
+
+  -- the record begins a new one
+  pub packing_next : (records : List (List ℕ)) (p : Packed) (octets : List ℕ) (r : List ℕ) → IsPackingOf category records p → 0 < length r → length r + 3 ≤ block_limit → block_limit < length p.last.body + length r + 3
+      → (0 < length p.last.body → octets ≡ encoded p.last) → IsPackingOf category (records ++ r ∷ []) (record { full = p.full ++ octets ∷ []; last = Body r })
+  packing_next records p octets r s some small over whole =
+      let size = size_of p.last s.in_last s.last_is in
+      let nonempty : 0 < length (concat (r ∷ [])) = rw (append-nil r) some in
+      elim s.filled [
+        | inl none ↦ absurd (omega (arith, size, ap (λ t. length (concat t)) none.1))
+        | inr filled ↦ record {
+          groups = s.groups ++ s.in_last ∷ [];
+          in_last = r ∷ [];
+          filled = inr (rw append_assoc (filled_open s.groups s.in_last r filled.0 (omega (arith, size)) small), nonempty);
+          all = ap (λ t. t ++ r ∷ []) (ungrouped_push s.groups s.in_last ∙ s.all);
+          full_is = (λ i. s.full_is i ++ last_octets records p octets s (whole (omega (arith, size))) i ∷ []) ∙ sym (blocks_push s.groups s.in_last);
+          last_is = ap Body (sym (append-nil r));
+        }
+      ]
+
+  -- the last block, if it has records, ends the packing
+  pub packing_end : (records : List (List ℕ)) (p : Packed) (octets : List ℕ) → IsPackingOf category records p → 0 < length p.last.body → octets ≡ encoded p.last → ArePacked category records (p.full ++ octets ∷ [])
+  packing_end records p octets s some whole =
+      let size = size_of p.last s.in_last s.last_is in
+      elim s.filled [
+        | inl none ↦ absurd (omega (arith, size, ap (λ t. length (concat t)) none.1))
+        | inr filled ↦ record {
+          groups = s.groups ++ s.in_last ∷ [];
+          filled = filled.0;
+          all = ungrouped_push s.groups s.in_last ∙ s.all;
+          blocks_are = (λ i. s.full_is i ++ last_octets records p octets s whole i ∷ []) ∙ sym (blocks_push s.groups s.in_last);
+        }
+      ]
+
+  pub packing_none : (records : List (List ℕ)) (p : Packed) → IsPackingOf category records p → p.last.body ≡ [] → ArePacked category records p.full
+  packing_none records p s none =
+      let size = size_of p.last s.in_last s.last_is in
+      elim s.filled [
+        | inl nothing ↦ record {
+          groups = [];
+          filled = tt;
+          all = rw (nothing.0, nothing.1) at s.all;
+          blocks_are = s.full_is ∙ ap (map (packed_block category)) nothing.0;
+        }
+        | inr filled ↦ absurd (omega (arith, size, ap length none, filled.1))
+      ]
+
+  pub one_block_packing : (records bs cs : List (List ℕ)) → ArePacked category records bs → ArePacked category records cs → bs ≡ cs
+  one_block_packing records bs cs h k = h.blocks_are ∙ ap (map (packed_block category)) (one_packing h.groups k.groups h.filled k.filled (h.all ∙ sym k.all)) ∙ sym k.blocks_are

@@ -103,7 +103,7 @@ found_at frn (p ∷ ps) at first end e =
           }
     ]
 
--- ---- a out_of_range time
+-- ---- a time out of range
 
 module _ (uap : Uap) where
   not_times : (before after : List Element) → AllByRecursion (λ p. p.number + 1 ≡ time_frn uap → ⊥) before → AllByRecursion (λ p. IsItem (item_at (table_of uap) p.number) p.octets) (before ++ after)
@@ -113,7 +113,7 @@ module _ (uap : Uap) where
       let next = not_times ps after other.1 h.1 in
       ((record { whole = h.0; in_day = λ e. absurd (other.0 e) }, next.0), next.1)
 
-  -- the items of a record, of which one is a out_of_range time
+  -- the items of a record, of which one is a time out of range
   pub record OutOfRangeFault (octets : List ℕ) (from first : ℕ) : Type 0 where
     pub inside : ℕ
     pub first_is : first ≡ from + inside

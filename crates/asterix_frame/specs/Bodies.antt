@@ -53,7 +53,7 @@ times_of uap rs = filter_map (λ r. time_of uap r.items) rs
 
 -- ---- items by their offsets
 
--- an FRN from 1 on, and a offset in the body
+-- an FRN from 1 on, and an offset in the body
 abbrev pub IsSpan : List ℕ → ℕ × ℕ × ℕ → Type 0
 IsSpan body span = (1 ≤ span.0) × LiesIn body span
 

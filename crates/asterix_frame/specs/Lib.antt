@@ -11,5 +11,6 @@ pub mod Elements
 pub mod Items
 pub mod Records
 pub mod DataRecords
+pub mod Encoding
 pub mod Bodies
 pub mod Datagrams

@@ -16,7 +16,7 @@ knows table n = is_item (item_at table n)
 abbrev pub BeginsRecord : List ItemFormat → List ℕ → List ℕ → List Element → List ℕ → List ℕ → Type 0
 BeginsRecord table = BeginsElements (knows table) (λ n octets. IsItem (item_at table n) octets)
 
--- the FRN, the first octet and the end of each item, from a offset on
+-- the FRN, the first octet and the end of each item, from an offset on
 abbrev pub spans : ℕ → List Element → List (ℕ × ℕ × ℕ)
 spans at [] = []
 spans at (p ∷ ps) = (p.number + 1, at, at + length p.octets) ∷ spans (at + length p.octets) ps

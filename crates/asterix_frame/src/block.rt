@@ -3,7 +3,7 @@ ghost use Rattle.std.specs.Prelude.{◌+◌, ◌<◌, ◌^◌, length};
 use std::alloc::AllocFailed;
 use trk_base::NoMemory;
 
-/// The octets of a block's head: its category and its length.
+// The octets of a block's head: its category and its length.
 pub(crate) const HEAD_LENGTH: usize = 3;
 
 /// A data block of a datagram.

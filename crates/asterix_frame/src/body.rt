@@ -41,10 +41,8 @@ pub fn first_record(
             cause: TIME_RANGE,
         }));
     }
-    match end {
-        Ok(next) => Ok(ItemSpans { frns, next }),
-        Err(malformed) => Err(BlocksError::Malformed(malformed)),
-    }
+    let next = end?;
+    Ok(ItemSpans { frns, next })
 }
 
 /// The records of a block, in order. A block without octets in its body has none.
@@ -77,11 +75,7 @@ fn time_out_of_range(uap: Uap, body: &[u8], frns: &[(u8, usize, usize)]) -> Opti
 {
     let (first, end) = span_of(frns, uap.time_of_day())?;
     let time = time_in(&body[first..end])?;
-    if u64::from(time) < DAY {
-        None
-    } else {
-        Some(first)
-    }
+    (u64::from(time) >= DAY).then_some(first)
 }
 
 // The first octet and the end of the item with that FRN.

@@ -8,22 +8,22 @@ use crate::cause::{ITEM_END, LENGTH_ZERO, UNKNOWN_SUBFIELD};
 use crate::presence::{FX, FieldError, Names, field_len, is_present};
 use crate::tables::{Compound, ItemFormat, SubfieldFormat};
 
-/// Why no item begins.
+// Why no item begins.
 #[derive(Clone, Copy)]
 pub(crate) struct ItemError {
-    /// How far in the item it is told.
+    // How far in the item it is told.
     pub(crate) inside: usize,
-    /// Its cause.
+    // Its cause.
     pub(crate) cause: u8,
 }
 
-/// The octets end before the item does.
+// The octets end before the item does.
 const ENDS: ItemError = ItemError {
     inside: 0,
     cause: ITEM_END,
 };
 
-/// The octets of the item that begins there.
+// The octets of the item that begins there.
 pub(crate) fn item_len(item: &ItemFormat, octets: &[u8]) -> Result<usize, ItemError>
     requires { is_item item.now ≡ true }
     ensures found { IfOk result (λ n. (n ≤ length octets.now) × IsItem item.now (take n octets.now)) }
@@ -45,11 +45,7 @@ fn fixed_len(size: u8, octets: &[u8]) -> Option<usize>
     ensures ends { IfNone result (length octets.now < size) }
 {
     let size = size as usize;
-    if size <= octets.len() {
-        Some(size)
-    } else {
-        None
-    }
+    (size <= octets.len()).then_some(size)
 }
 
 fn extended_len(octets: &[u8]) -> Option<usize>
@@ -66,11 +62,7 @@ fn repetitive_len(size: u8, octets: &[u8]) -> Option<usize>
 {
     let (count, rest) = octets.split_first()?;
     let len = *count as usize * size as usize;
-    if len <= rest.len() {
-        Some(len + 1)
-    } else {
-        None
-    }
+    (len <= rest.len()).then_some(len + 1)
 }
 
 fn explicit_len(octets: &[u8]) -> Result<usize, ItemError>

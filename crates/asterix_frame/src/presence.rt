@@ -5,25 +5,28 @@ ghost use Rattle.asterix_frame.specs.Names.{known, known_count, IsFieldError};
 
 use crate::tables::{ItemFormat, SubfieldFormat};
 
-/// Bit 1 of an octet: the field goes on.
+// Bit 1 of an octet: the field goes on.
 pub(crate) const FX: u8 = 1;
 
-/// The numbers that a table has at most, since an FSPEC of five octets names no item.
-pub(crate) const TABLE_LIMIT: usize = 28;
+// The octets of the longest FSPEC that names an item.
+pub(crate) const FSPEC_LIMIT: usize = 4;
 
-/// What the bits of a field name, by number.
+// The numbers that a table has at most.
+pub(crate) const TABLE_LIMIT: usize = 7 * FSPEC_LIMIT;
+
+// What the bits of a field name, by number.
 #[derive(Clone, Copy)]
 pub(crate) enum Names<'a> {
     Items(&'a [ItemFormat]),
     Subfields(&'a [SubfieldFormat]),
 }
 
-/// Why no field begins.
+// Why no field begins.
 #[derive(Clone, Copy)]
 pub(crate) enum FieldError {
-    /// The octets end within it.
+    // The octets end within it.
     Ends,
-    /// The octet at that offset has a bit that names nothing.
+    // The octet at that offset has a bit that names nothing.
     Spare(usize),
 }
 
@@ -64,7 +67,7 @@ impl Names<'_> {
     }
 }
 
-/// The octets of the field that begins there.
+// The octets of the field that begins there.
 pub(crate) fn field_len(names: Names<'_>, octets: &[u8]) -> Result<usize, FieldError>
     requires { known_count names ≤ TABLE_LIMIT }
     ensures found { IfOk result (λ n. (n ≤ length octets.now) × IsField (known names.entry) (take n octets.now)) }
@@ -81,7 +84,7 @@ pub(crate) fn field_len(names: Names<'_>, octets: &[u8]) -> Result<usize, FieldE
     Err(FieldError::Ends)
 }
 
-/// Whether a field names a number.
+// Whether a field names a number.
 pub(crate) fn is_present(field: &[u8], number: usize) -> bool
     requires { number / 7 < length field.now }
     ensures { IsTrue result ↔ (presence field.now number ≡ 1) }

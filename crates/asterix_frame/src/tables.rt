@@ -149,7 +149,15 @@ const NO: SubfieldFormat = SubfieldFormat::Spare;
 
 const ONE: SubfieldFormat = SubfieldFormat::Fixed(1);
 
-static SYSTEM_CONFIGURATION: [SubfieldFormat; 7] = [ONE, NO, NO, ONE, ONE, SubfieldFormat::Fixed(2), NO];
+static SYSTEM_CONFIGURATION: [SubfieldFormat; 7] = [
+    ONE,
+    NO,
+    NO,
+    ONE,
+    ONE,
+    SubfieldFormat::Fixed(2),
+    NO,
+];
 
 static PROCESSING_MODE: [SubfieldFormat; 7] = [ONE, NO, NO, ONE, ONE, ONE, NO];
 

@@ -9,7 +9,7 @@ ghost use Rattle.asterix_frame.specs.Records.{knows, LiesIn, HasRecord, IsFaultO
 
 use crate::cause::{FSPEC_END, SPARE_FRN};
 use crate::items::item_len;
-use crate::presence::{FieldError, TABLE_LIMIT, Names, field_len, is_present};
+use crate::presence::{FSPEC_LIMIT, FieldError, Names, TABLE_LIMIT, field_len, is_present};
 use crate::tables::{ItemFormat, Uap};
 use crate::{Block, BlocksError, Malformed};
 use std::alloc::Global;
@@ -56,10 +56,8 @@ pub fn walk_record(
     ensures refuses { (m : Malformed) → IsFaultOfRecord (table_of uap) block.now from m → RefusesWith result (λ x. x ≡ m) }
 {
     let ItemWalk { frns, end } = walk_items(alloc, uap, block, from)?;
-    match end {
-        Ok(next) => Ok(ItemSpans { frns, next }),
-        Err(malformed) => Err(BlocksError::Malformed(malformed)),
-    }
+    let next = end?;
+    Ok(ItemSpans { frns, next })
 }
 
 /// The items of the record that begins at an offset of a block's body, as far as they are whole.
@@ -111,7 +109,7 @@ fn walk_named(
     ensures { IfOk result (λ w. Walks table.now block.now.at block.now.body.now from w.frns.items w.end) }
 {
     let octets = &block.body[from..];
-    let mut frns = Vec::new(alloc);
+    let mut frns = Vec::with_capacity(alloc, 7 * fspec.min(FSPEC_LIMIT))?;
     let mut end = fspec;
     for (number, item) in table.iter().enumerate() {
         if number / 7 >= fspec {

@@ -1,6 +1,7 @@
-ghost use Rattle.std.specs.Prelude.{◌≡◌, ◌+◌, ◌<◌, ◌≤◌, ◌++◌, ◌↔◌, ℕ, List, [], length, IfOk, OnErr, false, if◌then◌else◌};
+// A data block in the making.
+ghost use Rattle.std.specs.Prelude.{◌≡◌, ◌+◌, ◌<◌, ◌≤◌, ◌++◌, ◌↔◌, [], length, IfOk, OnErr, false, if◌then◌else◌};
 ghost use Rattle.asterix_frame.specs.Blocks.{encoded};
-ghost use Rattle.asterix_frame.specs.Packing.{AreFilled, ungrouped, block_limit, record_limit};
+ghost use Rattle.asterix_frame.specs.Packing.{block_limit, record_limit};
 
 use crate::block::HEAD_LENGTH;
 use std::alloc::Global;
@@ -44,7 +45,15 @@ impl BlockWriter {
         }
     }
 
-    /// Adds one whole record. It is false, and the block as it was, exactly where the block would pass `BLOCK_LIMIT`. Without memory the block is as it was.
+    /// The category.
+    pub fn category(&self) -> u8
+        ensures { result ≡ self.now.category }
+    {
+        self.cat
+    }
+
+    /// Adds one whole record. It is false, and the block as it was, exactly where the block would
+    /// pass `BLOCK_LIMIT`. Without memory the block is as it was.
     pub fn append(&mut self, octets: &[u8]) -> Result<bool, NoMemory>
         requires some { 0 < length octets.now }
         requires limited { length octets.now ≤ record_limit }
@@ -57,6 +66,7 @@ impl BlockWriter {
             return Ok(false);
         }
         if self.octets.is_empty() {
+            self.octets.reserve(BLOCK_LIMIT)?;
             self.octets.extend_from_slice(&[0; HEAD_LENGTH])?;
         }
         self.octets.extend_from_slice(octets)?;
@@ -81,13 +91,8 @@ impl BlockWriter {
     }
 }
 
-/// Records have at most one setting in blocks that are filled as far as whole records go.
-pub fn one_packing()
-    ensures { (gs hs : List (List (List ℕ))) → AreFilled gs → AreFilled hs → ungrouped gs ≡ ungrouped hs → gs ≡ hs }
-{}
-
 /// The limits are the definition's.
 pub fn one_limit()
-    ensures block { BLOCK_LIMIT ≡ block_limit }
-    ensures record { RECORD_LIMIT ≡ record_limit }
+    ensures of_block { BLOCK_LIMIT ≡ block_limit }
+    ensures of_record { RECORD_LIMIT ≡ record_limit }
 {}

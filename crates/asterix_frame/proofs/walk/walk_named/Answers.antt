@@ -14,7 +14,7 @@ use Rattle.asterix_frame.proofs.walk.walk_named.Goals.{then-is_present+in-Ok+in_
 pub loop-number-init : goal.loop-number-init
 loop-number-init c =
     let octets = drop c.args.from c.args.block.now.body.now in
-    ([], read_none _ _ octets c.args.fspec c.requires.within c.requires.field, c.new-frns.ensures.items)
+    ([], read_none _ _ octets c.args.fspec c.requires.within c.requires.field, c.in_ok-frns.ensures.items)
 
 pub returns-in-Err : goal.returns-in-Err
 returns-in-Err c =
