@@ -1,11 +1,11 @@
--- Octets begin one thing at most: a whole field, part, item or record, or one fault.
+-- Octets begin one thing at most: a whole field, element, item or record, or one fault.
 use Rattle.std.proofs.Common.{◌≡◌, ◌∙◌, ap, sym, refl, subst, inl, inr, ℕ, ◌-◌, ◌/◌, ◌%◌, ◌<◌, ◌⊎◌, Bool, List, [], ◌∷◌, ◌++◌, length, get_or, arith, append_assoc, length-append}
 use Rattle.std.specs.List.{AllByRecursion}
 use Rattle.std.specs.Int.{bit_at}
 use Rattle.std.proofs.lemmas.Bool.{cases_order, cases_lt}
 use Rattle.std.proofs.lemmas.List.{get_or_append_left}
 use Rattle.asterix_frame.specs.Presence.{fx, presence, present, IsExtended, IsField, EndsInField, HasSpare}
-use Rattle.asterix_frame.specs.Parts.{Part, Begins, numbers, octets_of}
+use Rattle.asterix_frame.specs.Elements.{Element, BeginsElements, numbers, octets_of}
 use Rattle.asterix_frame.proofs.Heads.{split_same}
 
 -- What octets may begin, and how they fail to.
@@ -56,24 +56,24 @@ module _ (known : ℕ → Bool) where
   pub field_not_ends : (p x : List ℕ) → IsField known p → EndsInField known (p ++ x) → ⊥
   field_not_ends p x h f = let lt = extended_ends p x (length (p ++ x)) h.extended f.goes_on in omega (arith, lt, length-append p x)
 
-  pub field_not_spare : (p x : List ℕ) (place : ℕ) → IsField known p → HasSpare known (p ++ x) place → ⊥
-  field_not_spare p x place h f =
-      let lt = extended_ends p x place h.extended f.front.goes_on in
-      let within : f.number / 7 < length p = omega (arith, lt, f.at_place) in
+  pub field_not_spare : (p x : List ℕ) (offset : ℕ) → IsField known p → HasSpare known (p ++ x) offset → ⊥
+  field_not_spare p x offset h f =
+      let lt = extended_ends p x offset h.extended f.prefix.goes_on in
+      let within : f.number / 7 < length p = omega (arith, lt, f.at_offset) in
       let here : presence p f.number ≡ 1 = sym (same_presence p x f.number within) ∙ f.is_present in
       let yes = h.all_known f.number here in
       let no = f.unknown in
       cc
 
-  pub ends_not_spare : (o : List ℕ) (place : ℕ) → EndsInField known o → HasSpare known o place → ⊥
-  ends_not_spare o place f g =
-      let yes = f.all_known g.number (omega (arith, g.at_place, g.within)) g.is_present in
+  pub ends_not_spare : (o : List ℕ) (offset : ℕ) → EndsInField known o → HasSpare known o offset → ⊥
+  ends_not_spare o offset f g =
+      let yes = f.all_known g.number (omega (arith, g.at_offset, g.within)) g.is_present in
       let no = g.unknown in
       cc
 
   earlier_spare : (o : List ℕ) (a b : ℕ) → HasSpare known o a → HasSpare known o b → a < b → ⊥
   earlier_spare o a b f g lt =
-      let yes = g.front.all_known f.number (omega (arith, f.at_place)) f.is_present in
+      let yes = g.prefix.all_known f.number (omega (arith, f.at_offset)) f.is_present in
       let no = f.unknown in
       cc
 
@@ -85,14 +85,14 @@ module _ (known : ℕ → Bool) where
         | inr (inr lt) ↦ absurd (earlier_spare o b a g f lt)
       ]
 
--- ---- a field and its parts
+-- ---- a field and its elements
 
-module _ (known : ℕ → Bool) (IsPart : ℕ → List ℕ → Type 0) (None : ℕ → List ℕ → ℕ → ℕ → Type 0) (codes : (n : ℕ) → IsCode (IsPart n) (None n)) where
-  -- nothing is left to read, or the next part begins nowhere
+module _ (known : ℕ → Bool) (IsElement : ℕ → List ℕ → Type 0) (None : ℕ → List ℕ → ℕ → ℕ → Type 0) (codes : (n : ℕ) → IsCode (IsElement n) (None n)) where
+  -- nothing is left to read, or the next element begins nowhere
   pub record Stops (left rest : List ℕ) : Type 0 where
     pub stops : (left ≡ []) ⊎ ((n : ℕ) × (more : List ℕ) × (inside : ℕ) × (cause : ℕ) × (left ≡ n ∷ more) × None n rest inside cause)
 
-  goes_past : (q : Part) (left more rest after : List ℕ) → Stops left rest → left ≡ q.number ∷ more → rest ≡ q.octets ++ after → IsPart q.number q.octets → ⊥
+  goes_past : (q : Element) (left more rest after : List ℕ) → Stops left rest → left ≡ q.number ∷ more → rest ≡ q.octets ++ after → IsElement q.number q.octets → ⊥
   goes_past q left more rest after s l r h =
       elim s.stops [
         | inl nil ↦ (let e : q.number ∷ more ≡ [] = sym l ∙ nil in cc)
@@ -102,36 +102,36 @@ module _ (known : ℕ → Bool) (IsPart : ℕ → List ℕ → Type 0) (None : �
             (codes q.number).not_both q.octets after inside cause h none'
       ]
 
-  parts_same : (ps qs : List Part) (left left' rest rest' : List ℕ) → AllByRecursion (λ p. IsPart p.number p.octets) ps → AllByRecursion (λ p. IsPart p.number p.octets) qs
+  elements_same : (ps qs : List Element) (left left' rest rest' : List ℕ) → AllByRecursion (λ p. IsElement p.number p.octets) ps → AllByRecursion (λ p. IsElement p.number p.octets) qs
       → numbers ps ++ left ≡ numbers qs ++ left' → octets_of ps ++ rest ≡ octets_of qs ++ rest' → Stops left rest → Stops left' rest' → (ps ≡ qs) × (left ≡ left') × (rest ≡ rest')
-  parts_same [] [] left left' rest rest' hp hq n o s s' = (refl, n, o)
-  parts_same [] (q ∷ qs) left left' rest rest' hp hq n o s s' = absurd (goes_past q left (numbers qs ++ left') rest (octets_of qs ++ rest') s n (o ∙ append_assoc q.octets (octets_of qs) rest') hq.0)
-  parts_same (p ∷ ps) [] left left' rest rest' hp hq n o s s' = absurd (goes_past p left' (numbers ps ++ left) rest' (octets_of ps ++ rest) s' (sym n) (sym o ∙ append_assoc p.octets (octets_of ps) rest) hp.0)
-  parts_same (p ∷ ps) (q ∷ qs) left left' rest rest' hp hq n o s s' =
+  elements_same [] [] left left' rest rest' hp hq n o s s' = (refl, n, o)
+  elements_same [] (q ∷ qs) left left' rest rest' hp hq n o s s' = absurd (goes_past q left (numbers qs ++ left') rest (octets_of qs ++ rest') s n (o ∙ append_assoc q.octets (octets_of qs) rest') hq.0)
+  elements_same (p ∷ ps) [] left left' rest rest' hp hq n o s s' = absurd (goes_past p left' (numbers ps ++ left) rest' (octets_of ps ++ rest) s' (sym n) (sym o ∙ append_assoc p.octets (octets_of ps) rest) hp.0)
+  elements_same (p ∷ ps) (q ∷ qs) left left' rest rest' hp hq n o s s' =
       let number : p.number ≡ q.number = cc in
       let others : numbers ps ++ left ≡ numbers qs ++ left' = cc in
       let octets : p.octets ++ (octets_of ps ++ rest) ≡ q.octets ++ (octets_of qs ++ rest') = sym (append_assoc p.octets (octets_of ps) rest) ∙ o ∙ append_assoc q.octets (octets_of qs) rest' in
-      let hq' : IsPart p.number q.octets = subst (λ k. IsPart k q.octets) (sym number) hq.0 in
+      let hq' : IsElement p.number q.octets = subst (λ k. IsElement k q.octets) (sym number) hq.0 in
       let long = (codes p.number).one p.octets q.octets _ _ hp.0 hq' octets in
       let split = split_same p.octets q.octets (octets_of ps ++ rest) (octets_of qs ++ rest') long octets in
-      let next = parts_same ps qs left left' rest rest' hp.1 hq.1 others split.1 s s' in
+      let next = elements_same ps qs left left' rest rest' hp.1 hq.1 others split.1 s s' in
       ((λ i. record { number = number i; octets = split.0 i } ∷ next.0 i), next.1, next.2)
 
-  pub begins_same : (octets f g : List ℕ) (ps qs : List Part) (left left' rest rest' : List ℕ) → Begins known IsPart octets f ps left rest → Begins known IsPart octets g qs left' rest'
+  pub begins_same : (octets f g : List ℕ) (ps qs : List Element) (left left' rest rest' : List ℕ) → BeginsElements known IsElement octets f ps left rest → BeginsElements known IsElement octets g qs left' rest'
       → Stops left rest → Stops left' rest' → (f ≡ g) × (ps ≡ qs) × (left ≡ left') × (rest ≡ rest')
   begins_same octets f g ps qs left left' rest rest' b c s s' =
       let whole : f ++ (octets_of ps ++ rest) ≡ g ++ (octets_of qs ++ rest') = sym b.whole ∙ c.whole in
       let long = extended_one f g _ _ b.is_field.extended c.is_field.extended whole in
       let split = split_same f g (octets_of ps ++ rest) (octets_of qs ++ rest') long whole in
       let order : numbers ps ++ left ≡ numbers qs ++ left' = sym b.in_order ∙ ap present split.0 ∙ c.in_order in
-      let next = parts_same ps qs left left' rest rest' b.are_parts c.are_parts order split.1 s s' in
+      let next = elements_same ps qs left left' rest rest' b.are_elements c.are_elements order split.1 s s' in
       (split.0, next.0, next.1, next.2)
 
--- the same, with more octets behind
-pub begins_on : (known : ℕ → Bool) (IsPart : ℕ → List ℕ → Type 0) (octets field : List ℕ) (parts : List Part) (left rest x : List ℕ) → Begins known IsPart octets field parts left rest → Begins known IsPart (octets ++ x) field parts left (rest ++ x)
-begins_on known IsPart octets field parts left rest x b = record {
+-- the same, with more octets after
+pub begins_on : (known : ℕ → Bool) (IsElement : ℕ → List ℕ → Type 0) (octets field : List ℕ) (elements : List Element) (left rest x : List ℕ) → BeginsElements known IsElement octets field elements left rest → BeginsElements known IsElement (octets ++ x) field elements left (rest ++ x)
+begins_on known IsElement octets field elements left rest x b = record {
   is_field = b.is_field;
   in_order = b.in_order;
-  are_parts = b.are_parts;
-  whole = ap (λ t. t ++ x) b.whole ∙ append_assoc field (octets_of parts ++ rest) x ∙ ap (λ t. field ++ t) (append_assoc (octets_of parts) rest x);
+  are_elements = b.are_elements;
+  whole = ap (λ t. t ++ x) b.whole ∙ append_assoc field (octets_of elements ++ rest) x ∙ ap (λ t. field ++ t) (append_assoc (octets_of elements) rest x);
 }

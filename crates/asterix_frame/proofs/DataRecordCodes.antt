@@ -5,25 +5,25 @@ use Rattle.std.specs.List.{AllByRecursion}
 use Rattle.std.proofs.lemmas.List.{drop-drop, drop_at}
 use Rattle.trk_base.specs.Numbers.{day}
 use Rattle.asterix_frame.specs.declared.block.Malformed.{Malformed}
-use Rattle.asterix_frame.specs.declared.cause.TheConstants.{TIME_RANGE}
+use Rattle.asterix_frame.specs.Causes.{time_range}
 use Rattle.asterix_frame.specs.declared.tables.Uap.{Uap}
 use Rattle.asterix_frame.specs.Tables.{table_of, time_frn}
 use Rattle.asterix_frame.specs.Presence.{EndsInField, HasSpare}
-use Rattle.asterix_frame.specs.Parts.{Part, octets_of}
+use Rattle.asterix_frame.specs.Elements.{Element, octets_of}
 use Rattle.asterix_frame.specs.Records.{knows, spans, BeginsRecord, Walks}
 use Rattle.asterix_frame.specs.Records.{ends_in_fspec as walk_ends, has_spare as walk_spare, in_item as walk_item}
 use Rattle.asterix_frame.specs.DataRecords.{time_in, time_of, IsDataItem, BeginsNoDataItem, no_item, DataRecord, record_octets, IsDataRecord, BeginsDataRecord, FaultyDataItem, BeginsNoDataRecord, ends_in_fspec, has_spare, in_item}
-use Rattle.asterix_frame.specs.Bodies.{span_of, parts_at}
+use Rattle.asterix_frame.specs.Bodies.{span_of, elements_at}
 use Rattle.asterix_frame.proofs.Codes.{Stops, begins_same, field_not_ends, field_not_spare, ends_not_spare, one_spare}
 use Rattle.asterix_frame.proofs.DataItems.{data_item_code, items_rise, judged}
-use Rattle.asterix_frame.proofs.Placed.{parts_are, late_fault}
+use Rattle.asterix_frame.proofs.Placed.{elements_are, out_of_range_fault}
 use Rattle.asterix_frame.proofs.Sequences.{AreCode}
 
 module _ (uap : Uap) where
   abbrev RecordStops : List ℕ → List ℕ → Type 0
   RecordStops = Stops (knows (table_of uap)) (λ n octets. IsDataItem uap n octets) (λ n. BeginsNoDataItem uap n) (λ n. data_item_code uap n)
 
-  items_same : (o f g : List ℕ) (ps qs : List Part) (left left' rest rest' : List ℕ) → BeginsDataRecord uap o f ps left rest → BeginsDataRecord uap o g qs left' rest'
+  items_same : (o f g : List ℕ) (ps qs : List Element) (left left' rest rest' : List ℕ) → BeginsDataRecord uap o f ps left rest → BeginsDataRecord uap o g qs left' rest'
       → RecordStops left rest → RecordStops left' rest' → (f ≡ g) × (ps ≡ qs) × (left ≡ left') × (rest ≡ rest')
   items_same o f g ps qs left left' rest rest' b c s s' =
       begins_same (knows (table_of uap)) (λ n octets. IsDataItem uap n octets) (λ n. BeginsNoDataItem uap n) (λ n. data_item_code uap n) o f g ps qs left left' rest rest' b c s s'
@@ -38,15 +38,15 @@ module _ (uap : Uap) where
   begins_of r x h = record {
     is_field = h.is_fspec;
     in_order = h.in_order ∙ sym (append-nil _);
-    are_parts = h.are_items;
+    are_elements = h.are_items;
     whole = append_assoc r.fspec (octets_of r.items) x;
   }
 
-  not_ends : (o f : List ℕ) (ps : List Part) (left rest : List ℕ) → BeginsDataRecord uap o f ps left rest → EndsInField (knows (table_of uap)) o → ⊥
+  not_ends : (o f : List ℕ) (ps : List Element) (left rest : List ℕ) → BeginsDataRecord uap o f ps left rest → EndsInField (knows (table_of uap)) o → ⊥
   not_ends o f ps left rest b h = field_not_ends (knows (table_of uap)) f (octets_of ps ++ rest) b.is_field (subst (λ t. EndsInField (knows (table_of uap)) t) b.whole h)
 
-  not_spare : (o f : List ℕ) (ps : List Part) (left rest : List ℕ) (place : ℕ) → BeginsDataRecord uap o f ps left rest → HasSpare (knows (table_of uap)) o place → ⊥
-  not_spare o f ps left rest place b h = field_not_spare (knows (table_of uap)) f (octets_of ps ++ rest) place b.is_field (subst (λ t. HasSpare (knows (table_of uap)) t place) b.whole h)
+  not_spare : (o f : List ℕ) (ps : List Element) (left rest : List ℕ) (body_offset : ℕ) → BeginsDataRecord uap o f ps left rest → HasSpare (knows (table_of uap)) o body_offset → ⊥
+  not_spare o f ps left rest body_offset b h = field_not_spare (knows (table_of uap)) f (octets_of ps ++ rest) body_offset b.is_field (subst (λ t. HasSpare (knows (table_of uap)) t body_offset) b.whole h)
 
   some : (r : DataRecord) → IsDataRecord uap r → 0 < length (record_octets r)
   some r h = omega (arith, h.is_fspec.extended.some, length-append r.fspec (octets_of r.items))
@@ -77,7 +77,7 @@ module _ (uap : Uap) where
       let number : f.number ≡ g.number = cc in
       let none : BeginsNoDataItem uap g.number g.rest f.within c = subst (λ n. BeginsNoDataItem uap n g.rest f.within c) number (subst (λ t. BeginsNoDataItem uap f.number t f.within c) one.3 f.none) in
       let fault = (data_item_code uap g.number).one_fault g.rest f.within c g.within c' none g.none in
-      (f.place ∙ (λ k. length (one.0 k) + length (octets_of (one.1 k)) + fault.0 k) ∙ sym g.place, fault.1)
+      (f.inside_is ∙ (λ k. length (one.0 k) + length (octets_of (one.1 k)) + fault.0 k) ∙ sym g.inside_is, fault.1)
 
   one_fault : (o : List ℕ) (i c i' c' : ℕ) → BeginsNoDataRecord uap o i c → BeginsNoDataRecord uap o i' c' → (i ≡ i') × (c ≡ c')
   one_fault o i c i' c' (ends_in_fspec l f a b) (ends_in_fspec m g d e) = (a ∙ sym d, b ∙ sym e)
@@ -101,8 +101,8 @@ module _ (uap : Uap) where
       pub one : DataRecord
       pub is_record : IsDataRecord uap one
       pub octets : drop from body ≡ record_octets one ++ drop next body
-      pub items : parts_at body found ≡ one.items
-      pub places : found ≡ spans (from + length one.fspec) one.items
+      pub items : elements_at body found ≡ one.items
+      pub spans_are : found ≡ spans (from + length one.fspec) one.items
       pub next_is : next ≡ from + length (record_octets one)
 
     -- a fault there
@@ -111,15 +111,15 @@ module _ (uap : Uap) where
       pub none : BeginsNoDataRecord uap (drop from body) inside m.cause
       pub offset_is : m.offset ≡ offset + from + inside
 
-    parts_of : (fspec : List ℕ) (items : List Part) (left rest : List ℕ) → BeginsRecord (table_of uap) (drop from body) fspec items left rest → found ≡ spans (from + length fspec) items → parts_at body found ≡ items
-    parts_of fspec items left rest b e =
-        ap (parts_at body) e ∙ parts_are body (from + length fspec) items rest (sym (drop-drop (length fspec) from body) ∙ ap (drop (length fspec)) b.whole ∙ drop_at fspec (octets_of items ++ rest) (length fspec) refl)
+    elements_of : (fspec : List ℕ) (items : List Element) (left rest : List ℕ) → BeginsRecord (table_of uap) (drop from body) fspec items left rest → found ≡ spans (from + length fspec) items → elements_at body found ≡ items
+    elements_of fspec items left rest b e =
+        ap (elements_at body) e ∙ elements_are body (from + length fspec) items rest (sym (drop-drop (length fspec) from body) ∙ ap (drop (length fspec)) b.whole ∙ drop_at fspec (octets_of items ++ rest) (length fspec) refl)
 
-    in_day : (fspec : List ℕ) (items : List Part) (left rest : List ℕ) → BeginsRecord (table_of uap) (drop from body) fspec items left rest → found ≡ spans (from + length fspec) items → IfSome (time_of uap (parts_at body found)) (λ t. t < day)
+    in_day : (fspec : List ℕ) (items : List Element) (left rest : List ℕ) → BeginsRecord (table_of uap) (drop from body) fspec items left rest → found ≡ spans (from + length fspec) items → IfSome (time_of uap (elements_at body found)) (λ t. t < day)
         → AllByRecursion (λ p. IsDataItem uap p.number p.octets) items
-    in_day fspec items left rest b e t = judged uap items 0 b.are_parts (items_rise fspec items left b.in_order) (subst (λ ps. IfSome (time_of uap ps) (λ t. t < day)) (parts_of fspec items left rest b e) t)
+    in_day fspec items left rest b e t = judged uap items 0 b.are_elements (items_rise fspec items left b.in_order) (subst (λ ps. IfSome (time_of uap ps) (λ t. t < day)) (elements_of fspec items left rest b e) t)
 
-    pub taken : (next : ℕ) → Walks (table_of uap) offset body from found (Ok next) → IfSome (time_of uap (parts_at body found)) (λ t. t < day) → Taken next
+    pub taken : (next : ℕ) → Walks (table_of uap) offset body from found (Ok next) → IfSome (time_of uap (elements_at body found)) (λ t. t < day) → Taken next
     taken next w t = record {
       one = record { fspec = w.fspec; items = w.items };
       is_record = record {
@@ -128,19 +128,19 @@ module _ (uap : Uap) where
         are_items = in_day w.fspec w.items [] (drop next body) w.begins w.found_are t;
       };
       octets = w.begins.whole ∙ sym (append_assoc w.fspec (octets_of w.items) (drop next body));
-      items = parts_of w.fspec w.items [] (drop next body) w.begins w.found_are;
-      places = w.found_are;
+      items = elements_of w.fspec w.items [] (drop next body) w.begins w.found_are;
+      spans_are = w.found_are;
       next_is = omega (arith, w.next_is, length-append w.fspec (octets_of w.items));
     }
 
-    pub refused : (m : Malformed) → from < length body → Walks (table_of uap) offset body from found (Err m) → IfSome (time_of uap (parts_at body found)) (λ t. t < day) → Refused m
-    refused m h (place, e, walk_ends f nil i c) t = record {
+    pub refused : (m : Malformed) → from < length body → Walks (table_of uap) offset body from found (Err m) → IfSome (time_of uap (elements_at body found)) (λ t. t < day) → Refused m
+    refused m h (body_offset, e, walk_ends f nil i c) t = record {
       inside = length (drop from body);
       none = ends_in_fspec (omega (arith, h, length-drop from body)) f refl c;
       offset_is = omega (arith, e, i, h, length-drop from body);
     }
-    refused m h (place, e, walk_spare inside f nil i c) t = record { inside = inside; none = has_spare f c; offset_is = omega (arith, e, i) }
-    refused m h (place, e, walk_item f) t = record {
+    refused m h (body_offset, e, walk_spare inside f nil i c) t = record { inside = inside; none = has_spare f c; offset_is = omega (arith, e, i) }
+    refused m h (body_offset, e, walk_item f) t = record {
       inside = length f.fspec + length (octets_of f.items) + f.inside;
       none = in_item (record {
         fspec = f.fspec;
@@ -152,27 +152,27 @@ module _ (uap : Uap) where
         begins = record {
           is_field = f.begins.is_field;
           in_order = f.begins.in_order;
-          are_parts = in_day f.fspec f.items (f.number ∷ f.left) (drop f.at body) f.begins f.found_are t;
+          are_elements = in_day f.fspec f.items (f.number ∷ f.left) (drop f.at body) f.begins f.found_are t;
           whole = f.begins.whole;
         };
         none = no_item f.none;
-        place = refl;
+        inside_is = refl;
       });
-      offset_is = omega (arith, e, f.place_is, f.at_is);
+      offset_is = omega (arith, e, f.offset_is, f.at_is);
     }
 
     none_found : (first end : ℕ) → found ≡ [] → span_of (time_frn uap) found ≡ Some (first, end) → ⊥
     none_found first end nil e = let f : ◌≡◌ {A = Option (ℕ × ℕ)} None (Some (first, end)) = sym (ap (span_of (time_frn uap)) nil) ∙ e in cc
 
-    late_at : (fspec : List ℕ) (items : List Part) (left rest : List ℕ) (first end : ℕ) → BeginsRecord (table_of uap) (drop from body) fspec items left rest → found ≡ spans (from + length fspec) items
-        → span_of (time_frn uap) found ≡ Some (first, end) → IsSomeAnd (time_in (take (end - first) (drop first body))) (λ t. day ≤ t) → Refused (record { offset = offset + first; cause = TIME_RANGE })
-    late_at fspec items left rest first end b e s late =
-        let f = late_fault uap body from fspec items left rest first end b (ap (span_of (time_frn uap)) (sym e) ∙ s) late in
-        record { inside = f.inside; none = in_item f.fault; offset_is = omega (arith, f.place) }
+    out_of_range_at : (fspec : List ℕ) (items : List Element) (left rest : List ℕ) (first end : ℕ) → BeginsRecord (table_of uap) (drop from body) fspec items left rest → found ≡ spans (from + length fspec) items
+        → span_of (time_frn uap) found ≡ Some (first, end) → IsSomeAnd (time_in (take (end - first) (drop first body))) (λ t. day ≤ t) → Refused (record { offset = offset + first; cause = time_range })
+    out_of_range_at fspec items left rest first end b e s out_of_range =
+        let f = out_of_range_fault uap body from fspec items left rest first end b (ap (span_of (time_frn uap)) (sym e) ∙ s) out_of_range in
+        record { inside = f.inside; none = in_item f.fault; offset_is = omega (arith, f.first_is) }
 
-    pub refused_late : (end : Result ℕ Malformed) (first last : ℕ) → Walks (table_of uap) offset body from found end → span_of (time_frn uap) found ≡ Some (first, last)
-        → IsSomeAnd (time_in (take (last - first) (drop first body))) (λ t. day ≤ t) → Refused (record { offset = offset + first; cause = TIME_RANGE })
-    refused_late (Ok next) first last w s late = late_at w.fspec w.items [] (drop next body) first last w.begins w.found_are s late
-    refused_late (Err m) first last (place, e, walk_ends f nil i c) s late = absurd (none_found first last nil s)
-    refused_late (Err m) first last (place, e, walk_spare inside f nil i c) s late = absurd (none_found first last nil s)
-    refused_late (Err m) first last (place, e, walk_item f) s late = late_at f.fspec f.items (f.number ∷ f.left) (drop f.at body) first last f.begins f.found_are s late
+    pub refused_out_of_range : (end : Result ℕ Malformed) (first last : ℕ) → Walks (table_of uap) offset body from found end → span_of (time_frn uap) found ≡ Some (first, last)
+        → IsSomeAnd (time_in (take (last - first) (drop first body))) (λ t. day ≤ t) → Refused (record { offset = offset + first; cause = time_range })
+    refused_out_of_range (Ok next) first last w s out_of_range = out_of_range_at w.fspec w.items [] (drop next body) first last w.begins w.found_are s out_of_range
+    refused_out_of_range (Err m) first last (body_offset, e, walk_ends f nil i c) s out_of_range = absurd (none_found first last nil s)
+    refused_out_of_range (Err m) first last (body_offset, e, walk_spare inside f nil i c) s out_of_range = absurd (none_found first last nil s)
+    refused_out_of_range (Err m) first last (body_offset, e, walk_item f) s out_of_range = out_of_range_at f.fspec f.items (f.number ∷ f.left) (drop f.at body) first last f.begins f.found_are s out_of_range

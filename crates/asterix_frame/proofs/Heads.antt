@@ -3,7 +3,7 @@ use Rattle.std.proofs.Common.{◌≡◌, ◌∙◌, ap, sym, inl, inr, refl, zer
 use Rattle.std.proofs.lemmas.List.{take_at, drop_at, take-append-drop}
 use Rattle.std.proofs.lemmas.Nat.{be_bytes_2}
 use Rattle.std.specs.Int.{w16, to_be_bytes}
-use Rattle.asterix_frame.specs.Blocks.{DataBlock, IsDataBlock, BeginsNone, spelled}
+use Rattle.asterix_frame.specs.Blocks.{DataBlock, IsDataBlock, BeginsNone, encoded}
 
 pub short_at : (xs : List ℕ) → 0 < length xs → length xs < 3 → BeginsNone xs 0 1
 short_at [] l h = absurd (omega arith)
@@ -23,7 +23,7 @@ too_far_at (a ∷ []) n l e h = absurd (omega arith)
 too_far_at (a ∷ b ∷ []) n l e h = absurd (omega arith)
 too_far_at (a ∷ b ∷ c ∷ rest) n l e h = (refl, refl, inr (omega arith))
 
--- it is told at one place, with one cause
+-- it is told at one offset, with one cause
 pub same_fault : (xs : List ℕ) (i c j d : ℕ) → BeginsNone xs i c → BeginsNone xs j d → (i ≡ j) × (c ≡ d)
 same_fault [] i c j d f g = absurd f
 same_fault (x ∷ []) i c j d f g = (f.0 ∙ sym g.0, f.1 ∙ sym g.1)
@@ -31,7 +31,7 @@ same_fault (x ∷ y ∷ []) i c j d f g = (f.0 ∙ sym g.0, f.1 ∙ sym g.1)
 same_fault (x ∷ y ∷ z ∷ rest) i c j d f g = (f.0 ∙ sym g.0, f.1 ∙ sym g.1)
 
 -- a block begins with its octets
-pub begins_block : (b : DataBlock) (r : List ℕ) (inside cause : ℕ) → IsDataBlock b → BeginsNone (spelled b ++ r) inside cause → ⊥
+pub begins_block : (b : DataBlock) (r : List ℕ) (inside cause : ℕ) → IsDataBlock b → BeginsNone (encoded b ++ r) inside cause → ⊥
 begins_block b r inside cause fits none =
     elim none.2 [ inl small ↦ omega (arith, small) | inr far ↦ omega (arith, far, length-append b.body r) ]
 
@@ -45,12 +45,12 @@ split_same a b s t l e = (
 )
 
 -- and only with its own
-pub same_block : (x y : DataBlock) (r t : List ℕ) → IsDataBlock x → IsDataBlock y → spelled x ++ r ≡ spelled y ++ t → (x ≡ y) × (r ≡ t)
+pub same_block : (x y : DataBlock) (r t : List ℕ) → IsDataBlock x → IsDataBlock y → encoded x ++ r ≡ encoded y ++ t → (x ≡ y) × (r ≡ t)
 same_block x y r t hx hy e =
-    let parts = three _ _ _ _ _ _ (x.body ++ r) (y.body ++ t) e in
-    let long : length x.body ≡ length y.body = omega (arith, parts.1, parts.2) in
-    let rest = split_same x.body y.body r t long parts.3 in
-    (λ i. record { category = parts.0 i; body = rest.0 i }, rest.1)
+    let elements = three _ _ _ _ _ _ (x.body ++ r) (y.body ++ t) e in
+    let long : length x.body ≡ length y.body = omega (arith, elements.1, elements.2) in
+    let rest = split_same x.body y.body r t long elements.3 in
+    (λ i. record { category = elements.0 i; body = rest.0 i }, rest.1)
 
 pub two_octets : (high low : ℕ) → high < 256 → low < 256 → to_be_bytes w16 (256 * high + low) ≡ high ∷ low ∷ []
 two_octets high low h l = be_bytes_2 (high ∷ low ∷ []) (256 * high + low) refl below (omega arith) where
@@ -61,7 +61,7 @@ two_octets high low h l = be_bytes_2 (high ∷ low ∷ []) (256 * high + low) re
 
 -- a head whose length is within the octets begins a block
 pub head_at : (xs : List ℕ) (n : ℕ) → 3 ≤ length xs → n ≡ 256 * get_or xs 1 0 + get_or xs 2 0 → get_or xs 1 0 < 256 → get_or xs 2 0 < 256 → 3 ≤ n → n ≤ length xs
-    → xs ≡ spelled (record { category = get_or xs 0 0; body = take (n - 3) (drop 3 xs) }) ++ drop n xs
+    → xs ≡ encoded (record { category = get_or xs 0 0; body = take (n - 3) (drop 3 xs) }) ++ drop n xs
 head_at [] n l e h1 h2 big near = absurd (omega arith)
 head_at (a ∷ []) n l e h1 h2 big near = absurd (omega arith)
 head_at (a ∷ b ∷ []) n l e h1 h2 big near = absurd (omega arith)

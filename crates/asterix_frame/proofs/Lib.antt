@@ -1,8 +1,8 @@
 pub mod Heads
 pub mod Readings
 pub mod Pushed
-pub mod Settings
-pub mod Fronts
+pub mod Packings
+pub mod Prefixes
 pub mod Walked
 pub mod Codes
 pub mod ItemCodes
@@ -12,6 +12,8 @@ pub mod Sequences
 pub mod DataItems
 pub mod Placed
 pub mod DataRecordCodes
+pub mod Encodings
+pub mod Drafts
 pub mod Bodies
 pub mod Mapped
 pub mod Refusals

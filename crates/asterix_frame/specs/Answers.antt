@@ -9,19 +9,19 @@ use Rattle.asterix_frame.specs.Blocks.{BeginsNone}
 pub record BeginsNoBlock (datagram : List ℕ) (from : ℕ) (m : Malformed) : Type 0 where
   pub inside : ℕ
   pub none : BeginsNone (drop from datagram) inside m.cause
-  pub place : m.offset ≡ from + inside
+  pub offset_is : m.offset ≡ from + inside
 
 -- unless memory is wanting, the answer is a value with this property
-abbrev pub Reads : {T : Type 0} → Result T BlocksError → (T → Type 0) → Type 0
-Reads (Ok v) P = P v
-Reads (Err (errors.Malformed m)) P = ⊥
-Reads (Err errors.NoMemory) P = Unit {0}
+abbrev pub AnswersWith : {T : Type 0} → Result T BlocksError → (T → Type 0) → Type 0
+AnswersWith (Ok v) P = P v
+AnswersWith (Err (errors.Malformed m)) P = ⊥
+AnswersWith (Err errors.NoMemory) P = Unit {0}
 
 -- unless memory is wanting, the answer is a refusal with this property
-abbrev pub Refuses : {T : Type 0} → Result T BlocksError → (Malformed → Type 0) → Type 0
-Refuses (Ok v) P = ⊥
-Refuses (Err (errors.Malformed m)) P = P m
-Refuses (Err errors.NoMemory) P = Unit {0}
+abbrev pub RefusesWith : {T : Type 0} → Result T BlocksError → (Malformed → Type 0) → Type 0
+RefusesWith (Ok v) P = ⊥
+RefusesWith (Err (errors.Malformed m)) P = P m
+RefusesWith (Err errors.NoMemory) P = Unit {0}
 
 -- a refusal for the datagram's sake has this property
 abbrev pub IfMalformed : {T : Type 0} → Result T BlocksError → (Malformed → Type 0) → Type 0

@@ -2,16 +2,16 @@
 use Rattle.std.specs.Prelude.{◌≡◌, ◌⊎◌, ℕ, ◌+◌, ◌*◌, ◌<◌, ◌^◌, List, [], ◌∷◌, ◌++◌, length}
 use Rattle.std.specs.List.{flat_map}
 use Rattle.std.specs.Int.{w16, to_be_bytes}
-use Rattle.asterix_frame.specs.declared.cause.TheConstants.{BLOCK_SHORT, BLOCK_LENGTH}
+use Rattle.asterix_frame.specs.Causes.{block_short, block_length}
 
--- a block without its place in a datagram
+-- a block without its offset in a datagram
 pub record DataBlock : Type 0 where
   pub category : ℕ
   pub body : List ℕ
 
 -- its octets
-abbrev pub spelled : DataBlock → List ℕ
-spelled b = b.category ∷ to_be_bytes w16 (length b.body + 3) ++ b.body
+abbrev pub encoded : DataBlock → List ℕ
+encoded b = b.category ∷ to_be_bytes w16 (length b.body + 3) ++ b.body
 
 -- its length has two octets
 abbrev pub IsDataBlock : DataBlock → Type 0
@@ -22,23 +22,23 @@ AreDataBlocks [] = Unit {0}
 AreDataBlocks (b ∷ bs) = IsDataBlock b × AreDataBlocks bs
 
 -- the octets of a datagram of these blocks
-abbrev pub spelling : List DataBlock → List ℕ
-spelling bs = flat_map spelled bs
+abbrev pub encoding : List DataBlock → List ℕ
+encoding bs = flat_map encoded bs
 
 -- What stands where a block should begin, and begins none, however it goes on: fewer octets than a head has, or a length that is too small or reaches past the end.
 -- It says how far in the fault is told, and its cause.
 abbrev pub BeginsNone : List ℕ → ℕ → ℕ → Type 0
 BeginsNone [] inside cause = ⊥
 BeginsNone (category ∷ high ∷ low ∷ rest) inside cause =
-    (inside ≡ 1) × (cause ≡ BLOCK_LENGTH) × ((256 * high + low < 3) ⊎ (length rest + 3 < 256 * high + low))
-BeginsNone (category ∷ rest) inside cause = (inside ≡ 0) × (cause ≡ BLOCK_SHORT)
+    (inside ≡ 1) × (cause ≡ block_length) × ((256 * high + low < 3) ⊎ (length rest + 3 < 256 * high + low))
+BeginsNone (category ∷ rest) inside cause = (inside ≡ 0) × (cause ≡ block_short)
 
 -- the datagram is whole blocks, and then octets that begin none
 pub record BlockFault (datagram : List ℕ) (offset cause : ℕ) : Type 0 where
-  pub front : List DataBlock
+  pub prefix : List DataBlock
   pub rest : List ℕ
   pub inside : ℕ
-  pub blocks : AreDataBlocks front
-  pub whole : datagram ≡ spelling front ++ rest
+  pub blocks : AreDataBlocks prefix
+  pub whole : datagram ≡ encoding prefix ++ rest
   pub none : BeginsNone rest inside cause
-  pub place : offset ≡ length (spelling front) + inside
+  pub offset_is : offset ≡ length (encoding prefix) + inside

@@ -7,7 +7,7 @@ use Rattle.asterix_frame.specs.declared.block.Block.{Block}
 use Rattle.asterix_frame.specs.declared.tables.Uap.{Uap}
 use Rattle.asterix_frame.specs.declared.walk.ItemSpans.{ItemSpans}
 use Rattle.asterix_frame.specs.Tables.{time_frn}
-use Rattle.asterix_frame.specs.Parts.{Part}
+use Rattle.asterix_frame.specs.Elements.{Element}
 use Rattle.asterix_frame.specs.Records.{spans, LiesIn}
 use Rattle.asterix_frame.specs.DataRecords.{DataRecord, IsDataRecord, record_octets, BeginsNoDataRecord, time_in, time_of}
 
@@ -25,35 +25,35 @@ pub record IsBody (uap : Uap) (body : List ℕ) (rs : List DataRecord) : Type 0 
   pub are_records : AreDataRecords uap rs
   pub whole : body ≡ body_of rs
 
--- The body is whole records, and then octets that begin none: the fault's place in the body, and its cause.
-pub record BodyFault (uap : Uap) (body : List ℕ) (place cause : ℕ) : Type 0 where
-  pub front : List DataRecord
+-- The body is whole records, and then octets that begin none: the fault's offset in the body, and its cause.
+pub record BodyFault (uap : Uap) (body : List ℕ) (offset cause : ℕ) : Type 0 where
+  pub prefix : List DataRecord
   pub rest : List ℕ
   pub inside : ℕ
-  pub are_records : AreDataRecords uap front
-  pub whole : body ≡ body_of front ++ rest
+  pub are_records : AreDataRecords uap prefix
+  pub whole : body ≡ body_of prefix ++ rest
   pub none : BeginsNoDataRecord uap rest inside cause
-  pub place_is : place ≡ length (body_of front) + inside
+  pub offset_is : offset ≡ length (body_of prefix) + inside
 
--- what is told of a block that has no record from that place of its body on
+-- what is told of a block that has no record from that offset of its body on
 pub record IsFaultFrom (uap : Uap) (block : Block) (from : ℕ) (m : Malformed) : Type 0 where
   pub inside : ℕ
   pub none : BeginsNoDataRecord uap (drop from block.body.now) inside m.cause
-  pub offset : m.offset ≡ block.at + from + inside
+  pub offset_is : m.offset ≡ block.at + from + inside
 
 -- what is told of a block whose body isn't records
 pub record IsFaultOfBody (uap : Uap) (block : Block) (m : Malformed) : Type 0 where
-  pub place : ℕ
-  pub fault : BodyFault uap block.body.now place m.cause
-  pub offset : m.offset ≡ block.at + place
+  pub body_offset : ℕ
+  pub fault : BodyFault uap block.body.now body_offset m.cause
+  pub offset_is : m.offset ≡ block.at + body_offset
 
 -- the times of day of these records, in order
 abbrev pub times_of : Uap → List DataRecord → List ℕ
 times_of uap rs = filter_map (λ r. time_of uap r.items) rs
 
--- ---- items by their places
+-- ---- items by their offsets
 
--- an FRN from 1 on, and a place in the body
+-- an FRN from 1 on, and an offset in the body
 abbrev pub IsSpan : List ℕ → ℕ × ℕ × ℕ → Type 0
 IsSpan body span = (1 ≤ span.0) × LiesIn body span
 
@@ -63,37 +63,37 @@ span_of frn [] = None
 span_of frn (span ∷ more) = if span.0 == frn then Some (span.1, span.2) else span_of frn more
 
 -- what lies there
-abbrev pub part_at : List ℕ → ℕ × ℕ × ℕ → Part
-part_at body span = record { number = span.0 - 1; octets = take (span.2 - span.1) (drop span.1 body) }
+abbrev pub element_at : List ℕ → ℕ × ℕ × ℕ → Element
+element_at body span = record { number = span.0 - 1; octets = take (span.2 - span.1) (drop span.1 body) }
 
-abbrev pub parts_at : List ℕ → List (ℕ × ℕ × ℕ) → List Part
-parts_at body found = map (part_at body) found
+abbrev pub elements_at : List ℕ → List (ℕ × ℕ × ℕ) → List Element
+elements_at body found = map (element_at body) found
 
 -- the item of the time of day begins there, and isn't below a day
-pub record IsLate (uap : Uap) (body : List ℕ) (found : List (ℕ × ℕ × ℕ)) (first : ℕ) : Type 0 where
+pub record IsTimeOutOfRange (uap : Uap) (body : List ℕ) (found : List (ℕ × ℕ × ℕ)) (first : ℕ) : Type 0 where
   pub end : ℕ
   pub at : span_of (time_frn uap) found ≡ Some (first, end)
-  pub late : IsSomeAnd (time_in (take (end - first) (drop first body))) (λ time. day ≤ time)
+  pub out_of_range : IsSomeAnd (time_in (take (end - first) (drop first body))) (λ time. day ≤ time)
 
--- the body has this record from that place on, with items at these places, and its end
+-- the body has this record from that offset on, with items at these offsets, and its end
 pub record HasDataRecord (uap : Uap) (body : List ℕ) (from : ℕ) (r : DataRecord) (found : ItemSpans) : Type 0 where
   pub is_record : IsDataRecord uap r
   pub octets : drop from body ≡ record_octets r ++ drop found.next body
-  pub items : parts_at body found.frns.items ≡ r.items
-  pub places : found.frns.items ≡ spans (from + length r.fspec) r.items
+  pub items : elements_at body found.frns.items ≡ r.items
+  pub spans_are : found.frns.items ≡ spans (from + length r.fspec) r.items
   pub next : found.next ≡ from + length (record_octets r)
 
--- the body has these records from that place on, and their items lie there
+-- the body has these records from that offset on, and their items lie there
 abbrev pub HaveDataRecords : Uap → List ℕ → ℕ → List DataRecord → List ItemSpans → Type 0
 HaveDataRecords uap body from [] [] = Unit {0}
 HaveDataRecords uap body from (r ∷ rs) (found ∷ more) = HasDataRecord uap body from r found × HaveDataRecords uap body found.next rs more
 HaveDataRecords uap body from _ _ = ⊥
 
--- the places lie in the body
+-- the offsets lie in the body
 abbrev pub AreSpans : List ℕ → ItemSpans → Type 0
 AreSpans body found = All (IsSpan body) found.frns.items
 
--- the body is records, whose items lie at these places
+-- the body is records, whose items lie at these offsets
 pub record HasRecords (uap : Uap) (body : List ℕ) (found : List ItemSpans) : Type 0 where
   pub records : List DataRecord
   pub is_body : IsBody uap body records

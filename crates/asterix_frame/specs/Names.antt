@@ -17,17 +17,17 @@ abbrev pub known_count : Names → ℕ
 known_count (names.Items table) = length table.now
 known_count (names.Subfields table) = length table.now
 
--- Each number of the octet at that place is known.
+-- Each number of the octet at that offset is known.
 abbrev pub NamesKnown : (ℕ → Bool) → ℕ → ℕ → Type 0
-NamesKnown known place octet = (bit : ℕ) → bit < 7 → bit_at octet (7 - bit) ≡ 1 → known (7 * place + bit) ≡ true
+NamesKnown known offset octet = (bit : ℕ) → bit < 7 → bit_at octet (7 - bit) ≡ 1 → known (7 * offset + bit) ≡ true
 
 -- Some number of it isn't.
-pub record NamesUnknown (known : ℕ → Bool) (place octet : ℕ) : Type 0 where
+pub record NamesUnknown (known : ℕ → Bool) (offset octet : ℕ) : Type 0 where
   pub bit : ℕ
   pub in_octet : bit < 7
   pub is_set : bit_at octet (7 - bit) ≡ 1
-  pub unknown : known (7 * place + bit) ≡ false
+  pub unknown : known (7 * offset + bit) ≡ false
 
 abbrev pub IsFieldError : (ℕ → Bool) → List ℕ → FieldError → Type 0
 IsFieldError known octets errors.Ends = EndsInField known octets
-IsFieldError known octets (errors.Spare place) = HasSpare known octets place
+IsFieldError known octets (errors.Spare offset) = HasSpare known octets offset

@@ -31,19 +31,19 @@ pub record IsField (known : ℕ → Bool) (field : List ℕ) : Type 0 where
   pub all_known : (n : ℕ) → presence field n ≡ 1 → known n ≡ true
 
 -- So many octets have FX, and all numbers in them stand for something, so the field isn't at its end.
-pub record GoesOn (known : ℕ → Bool) (octets : List ℕ) (count : ℕ) : Type 0 where
+pub record Continues (known : ℕ → Bool) (octets : List ℕ) (count : ℕ) : Type 0 where
   pub goes_on : (i : ℕ) → i < count → fx (slice_index octets i) ≡ 1
   pub all_known : (n : ℕ) → n / 7 < count → presence octets n ≡ 1 → known n ≡ true
 
 -- the octets end within the field
 abbrev pub EndsInField : (ℕ → Bool) → List ℕ → Type 0
-EndsInField known octets = GoesOn known octets (length octets)
+EndsInField known octets = Continues known octets (length octets)
 
--- the octet at that place, which belongs to the field, has a number that stands for nothing
-pub record HasSpare (known : ℕ → Bool) (octets : List ℕ) (place : ℕ) : Type 0 where
-  pub within : place < length octets
-  pub front : GoesOn known octets place
+-- the octet at that offset, which belongs to the field, has a number that stands for nothing
+pub record HasSpare (known : ℕ → Bool) (octets : List ℕ) (offset : ℕ) : Type 0 where
+  pub within : offset < length octets
+  pub prefix : Continues known octets offset
   pub number : ℕ
-  pub at_place : number / 7 ≡ place
+  pub at_offset : number / 7 ≡ offset
   pub is_present : presence octets number ≡ 1
   pub unknown : known number ≡ false

@@ -1,6 +1,6 @@
 -- What the octets of an item say where the form is the same in all categories (ASTERIX, Part 1): numbers, their bits, and data source identifiers. Octets of another length say nothing.
 use Rattle.std.specs.Prelude.{ℕ, ◌+◌, ◌-◌, ◌*◌, ◌^◌, Bool, ◌==◌, nat_lt, if◌then◌else◌, List, [], ◌∷◌, Option, Some, None, ℤ, pos, ◌-ℤ◌}
-use Rattle.std.specs.Int.{bit_at}
+use Rattle.std.specs.Int.{bit_at, bytes_high_first}
 
 -- ---- whole numbers, the highest octet first
 
@@ -9,6 +9,10 @@ from_two high low = 256 * high + low
 
 abbrev pub from_three : ℕ → ℕ → ℕ → ℕ
 from_three high middle low = 65536 * high + 256 * middle + low
+
+-- a number in so many octets
+abbrev pub big_endian : ℕ → ℕ → List ℕ
+big_endian octets number = bytes_high_first octets number
 
 -- in one octet
 abbrev pub one_octet : List ℕ → Option ℕ

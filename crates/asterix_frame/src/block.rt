@@ -3,8 +3,8 @@ ghost use Rattle.std.specs.Prelude.{◌+◌, ◌<◌, ◌^◌, length};
 use std::alloc::AllocFailed;
 use trk_base::NoMemory;
 
-/// The octets of a block's head: its category and its length.
-pub(crate) const HEAD: usize = 3;
+// The octets of a block's head: its category and its length.
+pub(crate) const HEAD_LENGTH: usize = 3;
 
 /// A data block of a datagram.
 #[derive(Clone, Copy)]
@@ -29,7 +29,7 @@ impl Block<'_> {
     }
 }
 
-/// The first place of a datagram, from the left, where nothing that ASTERIX allows stands.
+/// The first octet of a datagram, from the left, where nothing that ASTERIX allows stands.
 #[derive(Clone, Copy, Debug, PartialEq, Eq)]
 pub struct Malformed {
     /// The offset in the datagram that the cause tells.

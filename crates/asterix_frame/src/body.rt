@@ -2,10 +2,10 @@
 ghost use Rattle.std.specs.Prelude.{◌≡◌, ◌<◌, ◌≤◌, ◌++◌, ◌⊎◌, ℕ, List, length, drop, All, IfOk, IfSome, IfNone};
 ghost use Rattle.asterix_frame.specs.declared.block.Malformed.{Malformed};
 ghost use Rattle.asterix_frame.specs.declared.tables.Uap.{Uap};
-ghost use Rattle.asterix_frame.specs.Answers.{Reads, Refuses, IfMalformed};
+ghost use Rattle.asterix_frame.specs.Answers.{AnswersWith, RefusesWith, IfMalformed};
 ghost use Rattle.trk_base.specs.Numbers.{day};
 ghost use Rattle.asterix_frame.specs.DataRecords.{DataRecord, IsDataRecord, record_octets, time_in, time_of};
-ghost use Rattle.asterix_frame.specs.Bodies.{IsBody, BodyFault, IsFaultFrom, IsFaultOfBody, HasDataRecord, HaveDataRecords, HasRecords, AreSpans, IsSpan, IsLate, span_of, parts_at};
+ghost use Rattle.asterix_frame.specs.Bodies.{IsBody, BodyFault, IsFaultFrom, IsFaultOfBody, HasDataRecord, HaveDataRecords, HasRecords, AreSpans, IsSpan, IsTimeOutOfRange, span_of, elements_at};
 
 use crate::cause::TIME_RANGE;
 use crate::tables::{SOURCE_FRN, Uap};
@@ -15,7 +15,7 @@ use crate::{Block, BlocksError, Malformed};
 use std::alloc::Global;
 use trk_base::DAY;
 
-/// The record that begins at a place of a block's body, where it is whole and its time of day, if it has one, is below a day.
+/// The record that begins at an offset of a block's body, where it is whole and its time of day, if it has one, is below a day.
 ///
 /// It is refused exactly where none begins there, by the first fault from the left, with one of the causes `FSPEC_END` to `TIME_RANGE`. A time of day is judged when its item is whole, so before a later item that is cut short.
 pub fn first_record(
@@ -31,20 +31,18 @@ pub fn first_record(
     ensures malformed { IfMalformed result (λ m. IsFaultFrom uap block.now from m) }
 
     // The other directions, unless memory is wanting.
-    ensures reads { (r : DataRecord) (rest : List ℕ) → IsDataRecord uap r → drop from block.now.body.now ≡ record_octets r ++ rest → Reads result (λ s. HasDataRecord uap block.now.body.now from r s) }
-    ensures refuses { (m : Malformed) → IsFaultFrom uap block.now from m → Refuses result (λ x. x ≡ m) }
+    ensures reads { (r : DataRecord) (rest : List ℕ) → IsDataRecord uap r → drop from block.now.body.now ≡ record_octets r ++ rest → AnswersWith result (λ s. HasDataRecord uap block.now.body.now from r s) }
+    ensures refuses { (m : Malformed) → IsFaultFrom uap block.now from m → RefusesWith result (λ x. x ≡ m) }
 {
     let ItemWalk { frns, end } = walk_items(alloc, uap, block, from)?;
-    if let Some(first) = late_time(uap, block.body, &frns) {
+    if let Some(first) = time_out_of_range(uap, block.body, &frns) {
         return Err(BlocksError::Malformed(Malformed {
             offset: block.at + first,
             cause: TIME_RANGE,
         }));
     }
-    match end {
-        Ok(next) => Ok(ItemSpans { frns, next }),
-        Err(malformed) => Err(BlocksError::Malformed(malformed)),
-    }
+    let next = end?;
+    Ok(ItemSpans { frns, next })
 }
 
 /// The records of a block, in order. A block without octets in its body has none.
@@ -56,8 +54,8 @@ pub fn records(alloc: Global, uap: Uap, block: &Block<'_>) -> Result<Vec<ItemSpa
     ensures malformed { IfMalformed result (λ m. IsFaultOfBody uap block.now m) }
 
     // The other directions, unless memory is wanting.
-    ensures reads { (rs : List DataRecord) → IsBody uap block.now.body.now rs → Reads result (λ v. HaveDataRecords uap block.now.body.now 0 rs v.items) }
-    ensures refuses { (m : Malformed) → IsFaultOfBody uap block.now m → Refuses result (λ x. x ≡ m) }
+    ensures reads { (rs : List DataRecord) → IsBody uap block.now.body.now rs → AnswersWith result (λ v. HaveDataRecords uap block.now.body.now 0 rs v.items) }
+    ensures refuses { (m : Malformed) → IsFaultOfBody uap block.now m → RefusesWith result (λ x. x ≡ m) }
 {
     let mut found = Vec::new(alloc);
     let mut from = 0;
@@ -69,19 +67,15 @@ pub fn records(alloc: Global, uap: Uap, block: &Block<'_>) -> Result<Vec<ItemSpa
     Ok(found)
 }
 
-// The place of the time of day, where it isn't below a day.
-fn late_time(uap: Uap, body: &[u8], frns: &[(u8, usize, usize)]) -> Option<usize>
+// The offset of the time of day, where it isn't below a day.
+fn time_out_of_range(uap: Uap, body: &[u8], frns: &[(u8, usize, usize)]) -> Option<usize>
     requires { All (IsSpan body.now) frns.now }
-    ensures late { IfSome result (λ first. IsLate uap body.now frns.now first) }
-    ensures early { IfNone result (IfSome (time_of uap (parts_at body.now frns.now)) (λ time. time < day)) }
+    ensures out_of_range { IfSome result (λ first. IsTimeOutOfRange uap body.now frns.now first) }
+    ensures early { IfNone result (IfSome (time_of uap (elements_at body.now frns.now)) (λ time. time < day)) }
 {
     let (first, end) = span_of(frns, uap.time_of_day())?;
     let time = time_in(&body[first..end])?;
-    if u64::from(time) < DAY {
-        None
-    } else {
-        Some(first)
-    }
+    (u64::from(time) >= DAY).then_some(first)
 }
 
 // The first octet and the end of the item with that FRN.
@@ -107,12 +101,12 @@ impl ItemSpans {
     ghost use Rattle.std.specs.Prelude.{◌≡◌};
     ghost use Rattle.std.specs.Option.{option_map};
     ghost use Rattle.asterix_frame.specs.DataRecords.{item, item_octets, source_of, time_of};
-    ghost use Rattle.asterix_frame.specs.Bodies.{AreSpans, parts_at};
+    ghost use Rattle.asterix_frame.specs.Bodies.{AreSpans, elements_at};
 
     /// The octets of the item with that FRN, if the record has it. `body` is that of the record's block.
     pub fn item<'a>(&self, body: &'a [u8], frn: u8) -> Option<&'a [u8]>
         requires { AreSpans body.now self.now }
-        ensures { option_map (λ octets. octets.now) result ≡ item frn (parts_at body.now self.now.frns.items) }
+        ensures { option_map (λ octets. octets.now) result ≡ item frn (elements_at body.now self.now.frns.items) }
     {
         let (first, end) = span_of(&self.frns, frn)?;
         Some(&body[first..end])
@@ -121,7 +115,7 @@ impl ItemSpans {
     /// The octets of the item with that FRN; those of an item that the record doesn't have are none. `body` is that of the record's block.
     pub fn octets<'a>(&self, body: &'a [u8], frn: u8) -> &'a [u8]
         requires { AreSpans body.now self.now }
-        ensures { result.now ≡ item_octets frn (parts_at body.now self.now.frns.items) }
+        ensures { result.now ≡ item_octets frn (elements_at body.now self.now.frns.items) }
     {
         self.item(body, frn).unwrap_or(&[])
     }
@@ -129,7 +123,7 @@ impl ItemSpans {
     /// The record's data source identifier, SAC and SIC, if it has one. `body` is that of the record's block.
     pub fn data_source(&self, body: &[u8]) -> Option<(u8, u8)>
         requires { AreSpans body.now self.now }
-        ensures { result ≡ source_of (parts_at body.now self.now.frns.items) }
+        ensures { result ≡ source_of (elements_at body.now self.now.frns.items) }
     {
         data_source(self.octets(body, SOURCE_FRN))
     }
@@ -137,7 +131,7 @@ impl ItemSpans {
     /// The record's time of day in 1/128 s, if it has one. `body` is that of the record's block.
     pub fn time_of_day(&self, uap: Uap, body: &[u8]) -> Option<u32>
         requires { AreSpans body.now self.now }
-        ensures { result ≡ time_of uap (parts_at body.now self.now.frns.items) }
+        ensures { result ≡ time_of uap (elements_at body.now self.now.frns.items) }
     {
         time_in(self.item(body, uap.time_of_day())?)
     }
@@ -145,8 +139,8 @@ impl ItemSpans {
 
 /// A body has exactly one reading: as whole records, or as a first fault.
 pub fn one_body()
-    ensures some { (uap : Uap) (body : List ℕ) → ((rs : List DataRecord) × IsBody uap body rs) ⊎ ((place : ℕ) × (cause : ℕ) × BodyFault uap body place cause) }
+    ensures some { (uap : Uap) (body : List ℕ) → ((rs : List DataRecord) × IsBody uap body rs) ⊎ ((offset : ℕ) × (cause : ℕ) × BodyFault uap body offset cause) }
     ensures one_list { (uap : Uap) (body : List ℕ) (rs rs' : List DataRecord) → IsBody uap body rs → IsBody uap body rs' → rs ≡ rs' }
     ensures one_fault { (uap : Uap) (body : List ℕ) (p c p' c' : ℕ) → BodyFault uap body p c → BodyFault uap body p' c' → (p ≡ p') × (c ≡ c') }
-    ensures not_both { (uap : Uap) (body : List ℕ) (rs : List DataRecord) (place cause : ℕ) → IsBody uap body rs → BodyFault uap body place cause → ⊥ }
+    ensures not_both { (uap : Uap) (body : List ℕ) (rs : List DataRecord) (offset cause : ℕ) → IsBody uap body rs → BodyFault uap body offset cause → ⊥ }
 {}

@@ -1,8 +1,9 @@
-ghost use Rattle.std.specs.Prelude.{◌≡◌, ◌+◌, ◌<◌, ◌≤◌, ◌++◌, ◌↔◌, ℕ, List, [], length, IfOk, OnErr, false, if◌then◌else◌};
-ghost use Rattle.asterix_frame.specs.Blocks.{spelled};
-ghost use Rattle.asterix_frame.specs.Groups.{AreFilled, ungrouped};
+// A data block in the making.
+ghost use Rattle.std.specs.Prelude.{◌≡◌, ◌+◌, ◌<◌, ◌≤◌, ◌++◌, ◌↔◌, [], length, IfOk, OnErr, false, if◌then◌else◌};
+ghost use Rattle.asterix_frame.specs.Blocks.{encoded};
+ghost use Rattle.asterix_frame.specs.Packing.{block_limit, record_limit};
 
-use crate::block::HEAD;
+use crate::block::HEAD_LENGTH;
 use std::alloc::Global;
 use std::marker::Model;
 use trk_base::NoMemory;
@@ -23,14 +24,14 @@ pub struct BlockWriter {
 
 impl Model for BlockWriter {
     ghost use Rattle.std.specs.Prelude.{◌≡◌, ◌<◌, ◌≤◌, [], length, drop};
-    ghost use Rattle.asterix_frame.specs.declared.writer.TheConstants.{BLOCK_LIMIT};
+    ghost use Rattle.asterix_frame.specs.Packing.{block_limit};
     ghost use Rattle.asterix_frame.specs.Blocks.{DataBlock};
 
     ghost Value = { DataBlock };
 
     ghost view = { λ w. record { category = w.cat; body = drop 3 w.octets.items } };
 
-    ghost invariant = { λ w. (length w.octets.items ≤ BLOCK_LIMIT) × (length w.octets.items < 3 → w.octets.items ≡ []) };
+    ghost invariant = { λ w. (length w.octets.items ≤ block_limit) × (length w.octets.items < 3 → w.octets.items ≡ []) };
 }
 
 impl BlockWriter {
@@ -44,20 +45,29 @@ impl BlockWriter {
         }
     }
 
-    /// Adds one whole record. It is false, and the block as it was, exactly where the block would pass `BLOCK_LIMIT`. Without memory the block is as it was.
+    /// The category.
+    pub fn category(&self) -> u8
+        ensures { result ≡ self.now.category }
+    {
+        self.cat
+    }
+
+    /// Adds one whole record. It is false, and the block as it was, exactly where the block would
+    /// pass `BLOCK_LIMIT`. Without memory the block is as it was.
     pub fn append(&mut self, octets: &[u8]) -> Result<bool, NoMemory>
         requires some { 0 < length octets.now }
-        requires limited { length octets.now ≤ RECORD_LIMIT }
-        ensures full { (result ≡ Ok false) ↔ (BLOCK_LIMIT < length self.old.body + length octets.now + 3) }
+        requires limited { length octets.now ≤ record_limit }
+        ensures full { (result ≡ Ok false) ↔ (block_limit < length self.old.body + length octets.now + 3) }
         ensures added { IfOk result (λ added. self.new ≡ (if added then record self.old { body = self.old.body ++ octets.now } else self.old)) }
         ensures err { OnErr result (self.new ≡ self.old) }
     {
-        let length = self.octets.len().max(HEAD);
+        let length = self.octets.len().max(HEAD_LENGTH);
         if length + octets.len() > BLOCK_LIMIT {
             return Ok(false);
         }
         if self.octets.is_empty() {
-            self.octets.extend_from_slice(&[0; HEAD])?;
+            self.octets.reserve(BLOCK_LIMIT)?;
+            self.octets.extend_from_slice(&[0; HEAD_LENGTH])?;
         }
         self.octets.extend_from_slice(octets)?;
         Ok(true)
@@ -66,22 +76,23 @@ impl BlockWriter {
     /// The block's octets, or none where no record was added.
     pub fn finish(self) -> Vec<u8>
         ensures none { self.body ≡ [] → result.items ≡ [] }
-        ensures block { 0 < length self.body → result.items ≡ spelled self }
-        ensures within { length result.items ≤ BLOCK_LIMIT }
+        ensures block { 0 < length self.body → result.items ≡ encoded self }
+        ensures within { length result.items ≤ block_limit }
     {
         let BlockWriter { cat, mut octets } = self;
-        if octets.len() <= HEAD {
+        if octets.len() <= HEAD_LENGTH {
             octets.clear();
         } else {
             let length = octets.len() as u16;
             octets[0] = cat;
-            octets[1..HEAD].copy_from_slice(&length.to_be_bytes());
+            octets[1..HEAD_LENGTH].copy_from_slice(&length.to_be_bytes());
         }
         octets
     }
 }
 
-/// Records have at most one setting in blocks that are filled as far as whole records go.
-pub fn one_setting()
-    ensures { (gs hs : List (List (List ℕ))) → AreFilled gs → AreFilled hs → ungrouped gs ≡ ungrouped hs → gs ≡ hs }
+/// The limits are the definition's.
+pub fn one_limit()
+    ensures of_block { BLOCK_LIMIT ≡ block_limit }
+    ensures of_record { RECORD_LIMIT ≡ record_limit }
 {}

@@ -2,9 +2,9 @@
 ghost use Rattle.std.specs.Prelude.{◌≡◌, List, All, IfOk};
 ghost use Rattle.asterix_frame.specs.declared.block.Malformed.{Malformed};
 ghost use Rattle.asterix_frame.specs.declared.tables.Uap.TheVariants.{Cat034};
-ghost use Rattle.asterix_frame.specs.Answers.{Reads, Refuses, IfMalformed};
+ghost use Rattle.asterix_frame.specs.Answers.{AnswersWith, RefusesWith, IfMalformed};
 ghost use Rattle.asterix_frame.specs.DataRecords.{DataRecord};
-ghost use Rattle.asterix_frame.specs.Bodies.{IsBody, IsFaultOfBody, AreSpans, parts_at};
+ghost use Rattle.asterix_frame.specs.Bodies.{IsBody, IsFaultOfBody, AreSpans, elements_at};
 ghost use Rattle.cat034_in.specs.Services.{service_of, services_of, IsTimed};
 
 use crate::Service;
@@ -31,8 +31,8 @@ pub fn read034(alloc: Global, block: &Block<'_>) -> Result<Vec<Service>, ReadErr
     ensures malformed { IfMalformed result (λ m. IsFaultOfBody Cat034 block.now m) }
 
     // The other directions, unless memory is wanting.
-    ensures reads { (rs : List DataRecord) → IsBody Cat034 block.now.body.now rs → Reads result (λ v. v.items ≡ services_of rs) }
-    ensures refuses { (m : Malformed) → IsFaultOfBody Cat034 block.now m → Refuses result (λ x. x ≡ m) }
+    ensures reads { (rs : List DataRecord) → IsBody Cat034 block.now.body.now rs → AnswersWith result (λ v. v.items ≡ services_of rs) }
+    ensures refuses { (m : Malformed) → IsFaultOfBody Cat034 block.now m → RefusesWith result (λ x. x ≡ m) }
 {
     let records = records(alloc, Uap::Cat034, block)?;
     let mut services = Vec::new(alloc);
@@ -45,7 +45,7 @@ pub fn read034(alloc: Global, block: &Block<'_>) -> Result<Vec<Service>, ReadErr
 // The service message of a record. `body` is that of its block.
 fn service_of(body: &[u8], items: &ItemSpans) -> Service
     requires { AreSpans body.now items.now }
-    ensures { result ≡ service_of (parts_at body.now items.now.frns.items) }
+    ensures { result ≡ service_of (elements_at body.now items.now.frns.items) }
 {
     Service {
         source: items.data_source(body),

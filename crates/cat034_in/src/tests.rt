@@ -74,7 +74,7 @@ const FAULTS: [(&[u8], usize, u8); 11] = [
         5,
         cause::UNKNOWN_SUBFIELD,
     ),
-    // behind a good record, and before an item that is cut short
+    // after a good record, and before an item that is cut short
     (
         &[0x22, 0x00, 0x09, 0x40, 0x01, 0x30, 0xA8, 0xC0, 0x00],
         6,

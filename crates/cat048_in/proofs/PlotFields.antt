@@ -5,7 +5,7 @@ use Rattle.std.specs.Option.{ForSome}
 use Rattle.trk_base.specs.Ranges.{IsTimeOfDay, IsKind, IsCode, IsLevel, IsAddress}
 use Rattle.trk_base.specs.declared.plots.RawPlot.{RawPlot}
 use Rattle.cat048_in.specs.declared.report.Report.{Report}
-use Rattle.cat048_in.specs.Plots.{plotted}
+use Rattle.cat048_in.specs.Plots.{plot_from}
 
 abbrev Fields : Type 0
 Fields = ℕ × ℕ × ℕ × ℕ × ℕ × ℕ × Bool × Option ℕ × Option ℤ × Option ℕ
@@ -60,16 +60,16 @@ pub record Takes (r : Report) (p : RawPlot) : Type 0 where
   pub level : p.level ≡ r.level
   pub address : p.address ≡ r.address
 
-pub plotted_is : (r : Report) (source : Option (ℕ × ℕ)) (tod : Option ℕ) (in_day : ForSome tod IsTimeOfDay) (polar : Option (ℕ × ℕ)) (kind : Option ℕ) (in_range : ForSome kind (λ k. k ≤ 7)) (p : RawPlot)
-    → source ≡ Some (p.sac, p.sic) → tod ≡ Some p.tod → polar ≡ Some (p.rho, p.theta) → kind ≡ Some p.kind → Takes r p → Ok p ≡ plotted r source tod in_day polar kind in_range
-plotted_is r None tod in_day polar kind in_range p a b c d h = absurd (cc)
-plotted_is r (Some source) None in_day polar kind in_range p a b c d h = absurd (cc)
-plotted_is r (Some source) (Some tod) in_day None kind in_range p a b c d h = absurd (cc)
-plotted_is r (Some source) (Some tod) in_day (Some polar) None in_range p a b c d h = absurd (cc)
-plotted_is r (Some source) (Some tod) in_day (Some polar) (Some zero) in_range p a b c d h =
+pub plot_from_is : (r : Report) (source : Option (ℕ × ℕ)) (tod : Option ℕ) (in_day : ForSome tod IsTimeOfDay) (polar : Option (ℕ × ℕ)) (kind : Option ℕ) (in_range : ForSome kind (λ k. k ≤ 7)) (p : RawPlot)
+    → source ≡ Some (p.sac, p.sic) → tod ≡ Some p.tod → polar ≡ Some (p.rho, p.theta) → kind ≡ Some p.kind → Takes r p → Ok p ≡ plot_from r source tod in_day polar kind in_range
+plot_from_is r None tod in_day polar kind in_range p a b c d h = absurd (cc)
+plot_from_is r (Some source) None in_day polar kind in_range p a b c d h = absurd (cc)
+plot_from_is r (Some source) (Some tod) in_day None kind in_range p a b c d h = absurd (cc)
+plot_from_is r (Some source) (Some tod) in_day (Some polar) None in_range p a b c d h = absurd (cc)
+plot_from_is r (Some source) (Some tod) in_day (Some polar) (Some zero) in_range p a b c d h =
     let e : 0 ≡ p.kind = cc in
     absurd (omega (arith, p.detected, e))
-plotted_is r (Some source) (Some tod) in_day (Some polar) (Some (suc k)) in_range p a b c d h =
+plot_from_is r (Some source) (Some tod) in_day (Some polar) (Some (suc k)) in_range p a b c d h =
     let s : source ≡ (p.sac, p.sic) = cc in
     let t : tod ≡ p.tod = cc in
     let q : polar ≡ (p.rho, p.theta) = cc in

@@ -13,13 +13,13 @@ pub detected : (k : ℕ) → suc k ≤ 7 → IsKind (suc k)
 detected k h = (omega arith, h)
 
 -- of a report with a source, a time, a position and a kind, or none of them
-abbrev pub plotted : Report → Option (ℕ × ℕ) → (tod : Option ℕ) → ForSome tod IsTimeOfDay → Option (ℕ × ℕ) → (kind : Option ℕ) → ForSome kind (λ k. k ≤ 7) → Result RawPlot NotPlot
-plotted r None tod in_day polar kind in_range = Err NoSource
-plotted r (Some source) None in_day polar kind in_range = Err NoTime
-plotted r (Some source) (Some tod) in_day None kind in_range = Err NoPosition
-plotted r (Some source) (Some tod) in_day (Some polar) None in_range = Err NoDetection
-plotted r (Some source) (Some tod) in_day (Some polar) (Some zero) in_range = Err NoDetection
-plotted r (Some source) (Some tod) in_day (Some polar) (Some (suc k)) in_range =
+abbrev pub plot_from : Report → Option (ℕ × ℕ) → (tod : Option ℕ) → ForSome tod IsTimeOfDay → Option (ℕ × ℕ) → (kind : Option ℕ) → ForSome kind (λ k. k ≤ 7) → Result RawPlot NotPlot
+plot_from r None tod in_day polar kind in_range = Err NoSource
+plot_from r (Some source) None in_day polar kind in_range = Err NoTime
+plot_from r (Some source) (Some tod) in_day None kind in_range = Err NoPosition
+plot_from r (Some source) (Some tod) in_day (Some polar) None in_range = Err NoDetection
+plot_from r (Some source) (Some tod) in_day (Some polar) (Some zero) in_range = Err NoDetection
+plot_from r (Some source) (Some tod) in_day (Some polar) (Some (suc k)) in_range =
     if r.test then Err Test
     else if r.simulated then Err Simulated
     else if r.monitor then Err Monitor
@@ -42,4 +42,4 @@ plotted r (Some source) (Some tod) in_day (Some polar) (Some (suc k)) in_range =
     })
 
 abbrev pub plot_of : Report → Result RawPlot NotPlot
-plot_of r = plotted r r.source r.tod r.in_day r.polar r.kind r.kind_range
+plot_of r = plot_from r r.source r.tod r.in_day r.polar r.kind r.kind_range

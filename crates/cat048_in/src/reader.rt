@@ -2,9 +2,9 @@
 ghost use Rattle.std.specs.Prelude.{◌≡◌, List, map, IfOk};
 ghost use Rattle.asterix_frame.specs.declared.block.Malformed.{Malformed};
 ghost use Rattle.asterix_frame.specs.declared.tables.Uap.TheVariants.{Cat048};
-ghost use Rattle.asterix_frame.specs.Answers.{Reads, Refuses, IfMalformed};
+ghost use Rattle.asterix_frame.specs.Answers.{AnswersWith, RefusesWith, IfMalformed};
 ghost use Rattle.asterix_frame.specs.DataRecords.{DataRecord, time_of};
-ghost use Rattle.asterix_frame.specs.Bodies.{IsBody, IsFaultOfBody, AreSpans, parts_at};
+ghost use Rattle.asterix_frame.specs.Bodies.{IsBody, IsFaultOfBody, AreSpans, elements_at};
 ghost use Rattle.cat048_in.specs.Reports.{report_of, reports_of};
 
 use crate::Report;
@@ -38,9 +38,9 @@ pub fn read048(alloc: Global, block: &Block<'_>) -> Result<Vec<Report>, ReadErro
     ensures malformed { IfMalformed result (λ m. IsFaultOfBody Cat048 block.now m) }
 
     // The other directions, unless memory is wanting.
-    ensures reads { (rs : List DataRecord) → IsBody Cat048 block.now.body.now rs → Reads result (λ v. v.items ≡ reports_of rs) }
-    ensures times { (rs : List DataRecord) → IsBody Cat048 block.now.body.now rs → Reads result (λ v. map (λ r. r.tod) v.items ≡ map (λ r. time_of Cat048 r.items) rs) }
-    ensures refuses { (m : Malformed) → IsFaultOfBody Cat048 block.now m → Refuses result (λ x. x ≡ m) }
+    ensures reads { (rs : List DataRecord) → IsBody Cat048 block.now.body.now rs → AnswersWith result (λ v. v.items ≡ reports_of rs) }
+    ensures times { (rs : List DataRecord) → IsBody Cat048 block.now.body.now rs → AnswersWith result (λ v. map (λ r. r.tod) v.items ≡ map (λ r. time_of Cat048 r.items) rs) }
+    ensures refuses { (m : Malformed) → IsFaultOfBody Cat048 block.now m → RefusesWith result (λ x. x ≡ m) }
 {
     let records = records(alloc, Uap::Cat048, block)?;
     let mut reports = Vec::new(alloc);
@@ -53,7 +53,7 @@ pub fn read048(alloc: Global, block: &Block<'_>) -> Result<Vec<Report>, ReadErro
 // The report of a record. `body` is that of its block.
 fn report_of(body: &[u8], items: &ItemSpans) -> Report
     requires { AreSpans body.now items.now }
-    ensures { result ≡ report_of (parts_at body.now items.now.frns.items) }
+    ensures { result ≡ report_of (elements_at body.now items.now.frns.items) }
 {
     let descriptor = items.octets(body, DESCRIPTOR);
     Report {

@@ -1,7 +1,7 @@
 use Rattle.std.proofs.Common.{◌≡◌, ◌∙◌, ap, sym, refl, ◌+◌, ◌-◌, ◌*◌, ◌<◌, ◌++◌, length, get_or, take, drop, arith, length-drop}
 use Rattle.std.proofs.lemmas.Grind.{common_steps}
 use Rattle.std.proofs.lemmas.List.{drop-drop, length-take, take_rest}
-use Rattle.asterix_frame.specs.Blocks.{spelled}
+use Rattle.asterix_frame.specs.Blocks.{encoded}
 use Rattle.asterix_frame.proofs.Heads.{head_at}
 use Rattle.asterix_frame.proofs.framing.first_block.Goals as goal
 
@@ -19,7 +19,7 @@ returns-clause-found c =
     let whole = head_at octets n (omega arith) e high low (omega arith) (omega arith) in
     record {
       fits = omega arith;
-      octets = whole ∙ (λ i. spelled (record { category = category i; body = take (n - 3) (sym back i) }) ++ drop-drop n c.args.from c.args.datagram.now i) ∙ ap (λ k. spelled (record { category = get_or c.split_at.result.0.now 0 0; body = take (n - 3) c.split_at.result.1.now }) ++ drop k c.args.datagram.now) (omega arith);
-      place = refl;
+      octets = whole ∙ (λ i. encoded (record { category = category i; body = take (n - 3) (sym back i) }) ++ drop-drop n c.args.from c.args.datagram.now i) ∙ ap (λ k. encoded (record { category = get_or c.split_at.result.0.now 0 0; body = take (n - 3) c.split_at.result.1.now }) ++ drop k c.args.datagram.now) (omega arith);
+      at_is = refl;
       within = omega arith;
     }

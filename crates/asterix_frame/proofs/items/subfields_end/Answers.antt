@@ -1,9 +1,9 @@
 use Rattle.std.proofs.Common.{◌≡◌, ◌++◌, ◌∷◌, refl, [], ◌*◌, ◌≤◌, ◌<◌, ℕ, false, length, take, drop, arith, length-take}
 use Rattle.std.proofs.lemmas.List.{get_or_past, take_rest}
 use Rattle.std.proofs.lemmas.Bool.{iff_false}
-use Rattle.asterix_frame.specs.declared.tables.Subfield.TheVariants as subfields
+use Rattle.asterix_frame.specs.declared.tables.SubfieldFormat.TheVariants as subfields
 use Rattle.asterix_frame.specs.Items.{IsSubfield, is_subfield, subfield_at}
-use Rattle.asterix_frame.proofs.Fronts.{read_none, read_more, read_less, read_next, read_whole, past_field, present_none}
+use Rattle.asterix_frame.proofs.Prefixes.{read_none, read_more, read_less, read_next, read_whole, past_field, present_none}
 use Rattle.asterix_frame.proofs.items.subfields_end.Goals as goal
 use Rattle.asterix_frame.proofs.items.subfields_end.Goals.{then-is_present+in_ok-end, else-is_present}
 
@@ -18,7 +18,7 @@ returns-in_err-end-clause-ends c =
     let below : n < 7 * length (take c.args.primary c.args.octets.now) = omega (arith, length-take c.args.primary c.args.octets.now) in
     rw c.from_residual.ensures (record {
       field = take c.args.primary c.args.octets.now;
-      parts = inv.0;
+      elements = inv.0;
       number = n;
       left = _;
       rest = drop c.loop-number.end c.args.octets.now;

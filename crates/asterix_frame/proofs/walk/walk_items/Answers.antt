@@ -8,7 +8,7 @@ use Rattle.asterix_frame.proofs.walk.walk_items.Goals as goal
 
 pub returns-in-Err-Spare-clause-walks : goal.returns-in-Err-Spare-clause-walks
 returns-in-Err-Spare-clause-walks c =
-    (c.args.from + c.in-Err-Spare.place, omega arith, has_spare c.in-Err-Spare.place (rw (take_rest c.args.block.now.body.now c.args.from, c.in-Err-Spare.field-0-is, c.table-table.ensures) at c.in-Err-Spare.ensures.none) c.new-in-Err-Spare.ensures.items refl refl)
+    (c.args.from + c.in-Err-Spare.offset, omega arith, has_spare c.in-Err-Spare.offset (rw (take_rest c.args.block.now.body.now c.args.from, c.in-Err-Spare.field-0-is, c.table-table.ensures) at c.in-Err-Spare.ensures.none) c.new-in-Err-Spare.ensures.items refl refl)
 
 pub returns-in-Ok-clause-within : goal.returns-in-Ok-clause-within
 returns-in-Ok-clause-within c =

@@ -1,5 +1,5 @@
 use Rattle.std.proofs.Common.{◌∙◌, ap}
-use Rattle.asterix_frame.specs.Bodies.{parts_at}
+use Rattle.asterix_frame.specs.Bodies.{elements_at}
 use Rattle.cat048_in.specs.Values.{below_day, kind_of, simulated_of, spi_of, monitor_of, test_of, polar_of, code_of, level_of, address_of}
 use Rattle.cat048_in.specs.Reports.{report_of}
 use Rattle.cat048_in.proofs.ReportFields.{same_report}
@@ -9,7 +9,7 @@ pub returns : goal.returns
 unfolding report_of
 returns c =
     let descriptor = c.octets-descriptor.ensures in
-    same_report _ (report_of (parts_at c.args.body.now c.args.items.now.frns.items)) (λ i. (
+    same_report _ (report_of (elements_at c.args.body.now c.args.items.now.frns.items)) (λ i. (
       c.data_source.ensures i,
       (c.below_day.ensures.value ∙ ap below_day c.time_of_day.ensures) i,
       (c.kind_of.ensures.value ∙ ap kind_of descriptor) i,
