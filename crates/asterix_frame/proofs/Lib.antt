@@ -14,6 +14,7 @@ pub mod Placed
 pub mod DataRecordCodes
 pub mod Encodings
 pub mod Drafts
+pub mod Written
 pub mod Bodies
 pub mod Mapped
 pub mod Refusals

@@ -1,4 +1,5 @@
--- A datagram as a list of data blocks (ASTERIX, Part 1): each has a category, a length of two octets that counts the category and itself, and that many octets less three.
+-- A datagram as a list of data blocks (ASTERIX, Part 1): each has a category, a length of two
+-- octets that counts the category and itself, and that many octets less three.
 use Rattle.std.specs.Prelude.{◌≡◌, ◌⊎◌, ℕ, ◌+◌, ◌*◌, ◌<◌, ◌^◌, List, [], ◌∷◌, ◌++◌, length}
 use Rattle.std.specs.List.{flat_map}
 use Rattle.std.specs.Int.{w16, to_be_bytes}
@@ -25,7 +26,8 @@ AreDataBlocks (b ∷ bs) = IsDataBlock b × AreDataBlocks bs
 abbrev pub encoding : List DataBlock → List ℕ
 encoding bs = flat_map encoded bs
 
--- What stands where a block should begin, and begins none, however it goes on: fewer octets than a head has, or a length that is too small or reaches past the end.
+-- What stands where a block should begin, and begins none, however it goes on: fewer octets than a
+-- head has, or a length that is too small or reaches past the end.
 -- It says how far in the fault is told, and its cause.
 abbrev pub BeginsNone : List ℕ → ℕ → ℕ → Type 0
 BeginsNone [] inside cause = ⊥

@@ -25,7 +25,8 @@ pub record IsBody (uap : Uap) (body : List ℕ) (rs : List DataRecord) : Type 0 
   pub are_records : AreDataRecords uap rs
   pub whole : body ≡ body_of rs
 
--- The body is whole records, and then octets that begin none: the fault's offset in the body, and its cause.
+-- The body is whole records, and then octets that begin none: the fault's offset in the body, and
+-- its cause.
 pub record BodyFault (uap : Uap) (body : List ℕ) (offset cause : ℕ) : Type 0 where
   pub prefix : List DataRecord
   pub rest : List ℕ

@@ -1,4 +1,5 @@
--- Whole records by their category: their items, the time of day among them, and octets that begin no record.
+-- Whole records by their category: their items, the time of day among them, and octets that begin
+-- no record.
 use Rattle.std.specs.Prelude.{◌≡◌, ℕ, ◌+◌, ◌<◌, ◌≤◌, ◌==◌, if◌then◌else◌, List, [], ◌∷◌, ◌++◌, length, Option, Some, None, IfSome, IsSomeAnd}
 use Rattle.std.specs.Option.{option_and_then, unwrap_or}
 use Rattle.std.specs.List.{AllByRecursion}
@@ -71,7 +72,8 @@ pub record IsDataRecord (uap : Uap) (r : DataRecord) : Type 0 where
   pub in_order : present r.fspec ≡ numbers r.items
   pub are_items : AllByRecursion (λ p. IsDataItem uap p.number p.octets) r.items
 
--- octets that begin with a whole FSPEC and with whole items for the first of its numbers, with a time of day below a day
+-- octets that begin with a whole FSPEC and with whole items for the first of its numbers, with a
+-- time of day below a day
 abbrev pub BeginsDataRecord : Uap → List ℕ → List ℕ → List Element → List ℕ → List ℕ → Type 0
 BeginsDataRecord uap = BeginsElements (knows (table_of uap)) (λ n octets. IsDataItem uap n octets)
 
@@ -87,7 +89,8 @@ pub record FaultyDataItem (uap : Uap) (octets : List ℕ) (inside cause : ℕ) :
   pub none : BeginsNoDataItem uap number rest within cause
   pub inside_is : inside ≡ length fspec + length (octets_of items) + within
 
--- What stands where a record should begin, up to the block's end, and begins none: what is told, how far in, and its cause.
+-- What stands where a record should begin, up to the block's end, and begins none: what is told,
+-- how far in, and its cause.
 pub data BeginsNoDataRecord (uap : Uap) (octets : List ℕ) (inside cause : ℕ) : Type 0 where
   ends_in_fspec : 0 < length octets → EndsInField (knows (table_of uap)) octets → inside ≡ length octets → cause ≡ fspec_end → BeginsNoDataRecord uap octets inside cause
   has_spare : HasSpare (knows (table_of uap)) octets inside → cause ≡ spare_frn → BeginsNoDataRecord uap octets inside cause

@@ -1,4 +1,5 @@
--- A whole datagram: blocks, of which those of radar messages (category 34) and target reports (category 48) are lists of records, and all others are passed over.
+-- A whole datagram: blocks, of which those of radar messages (category 34) and target reports
+-- (category 48) are lists of records, and all others are passed over.
 use Rattle.std.specs.Prelude.{◌≡◌, ◌≢◌, ◌⊎◌, ℕ, ◌+◌, List, [], ◌++◌, length}
 use Rattle.std.specs.List.{flat_map, AllByRecursion}
 use Rattle.asterix_frame.specs.declared.tables.Uap.{Uap}
@@ -8,7 +9,8 @@ use Rattle.asterix_frame.specs.Blocks.{DataBlock, IsDataBlock, BeginsNone, encod
 use Rattle.asterix_frame.specs.DataRecords.{DataRecord}
 use Rattle.asterix_frame.specs.Bodies.{AreDataRecords, BodyFault, body_of, times_of}
 
--- what a datagram's reader makes of a block: records of a category that is read, or octets of another one
+-- what a datagram's reader makes of a block: records of a category that is read, or octets of
+-- another one
 pub data Content : Type 0 where
   records : Uap → List DataRecord → Content
   other : ℕ → List ℕ → Content
@@ -51,7 +53,8 @@ pub data BeginsNoContent (octets : List ℕ) (inside cause : ℕ) : Type 0 where
   no_block : BeginsNone octets inside cause → BeginsNoContent octets inside cause
   no_records : BeginsFaultyBlock octets inside cause → BeginsNoContent octets inside cause
 
--- The datagram is whole blocks, and then octets that begin none: its first fault, in the order of reading.
+-- The datagram is whole blocks, and then octets that begin none: its first fault, in the order of
+-- reading.
 pub record DatagramFault (octets : List ℕ) (offset cause : ℕ) : Type 0 where
   pub prefix : List Content
   pub rest : List ℕ

@@ -1,4 +1,5 @@
--- What a record is encoded as: the field of presence bits that names its elements, as long as the last of them needs, and then their octets in rising FRN. A compound item is encoded alike.
+-- What a record is encoded as: the field of presence bits that names its elements, as long as the
+-- last of them needs, and then their octets in rising FRN. A compound item is encoded alike.
 use Rattle.std.specs.Prelude.{◌≡◌, ℕ, zero, suc, ◌+◌, ◌-◌, ◌*◌, ◌/◌, ◌<◌, ◌≤◌, Bool, true, false, ◌==◌, nat_lt, if◌then◌else◌, List, [], ◌∷◌, ◌++◌, length, take, drop, slice_index}
 use Rattle.std.specs.List.{AllByRecursion}
 use Rattle.asterix_frame.specs.declared.tables.Uap.{Uap}
@@ -19,7 +20,8 @@ abbrev pub bit : Bool → ℕ
 bit true = 1
 bit false = 0
 
--- Octet i has number 7 i in bit 8, and so on down to number 7 i + 6 in bit 2. Bit 1, FX, says that the field goes on.
+-- Octet i has number 7 i in bit 8, and so on down to number 7 i + 6 in bit 2. Bit 1, FX, says that
+-- the field goes on.
 unfoldable pub field_octet : (ℕ → Bool) → ℕ → Bool → ℕ
 field_octet named i goes_on =
     128 * bit (named (7 * i)) + 64 * bit (named (7 * i + 1)) + 32 * bit (named (7 * i + 2)) + 16 * bit (named (7 * i + 3))
@@ -79,7 +81,8 @@ compound_of subfields = field_of (numbers subfields) ++ octets_of subfields
 
 -- ---- elements by their sizes
 
--- Octets cut into elements by the size of each number from n on. A size of 0 is that of an element that isn't there.
+-- Octets cut into elements by the size of each number from n on. A size of 0 is that of an element
+-- that isn't there.
 abbrev pub elements_by_size : ℕ → List ℕ → List ℕ → List Element
 elements_by_size n [] octets = []
 elements_by_size n (zero ∷ sizes) octets = elements_by_size (suc n) sizes octets
@@ -94,7 +97,8 @@ total_size (size ∷ sizes) = size + total_size sizes
 abbrev pub sized : List ℕ → ℕ → Bool
 sized sizes n = nat_lt 0 (slice_index sizes n)
 
--- A record in the making: nothing, or room for four octets of the FSPEC and then the items' octets; the size of each item by its number, and the last item's FRN.
+-- A record in the making: nothing, or room for four octets of the FSPEC and then the items' octets;
+-- the size of each item by its number, and the last item's FRN.
 pub record IsDraft (octets sizes : List ℕ) (last : ℕ) : Type 0 where
   pub room : length octets < 4 → octets ≡ []
   pub limited : length octets ≤ record_limit

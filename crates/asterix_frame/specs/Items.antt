@@ -83,7 +83,8 @@ IsItem (formats.Repetitive size) octets = IsRepetitive size octets
 IsItem formats.Explicit octets = IsExplicit octets
 IsItem (formats.Compound compound) octets = IsCompound (subfields_of compound) octets
 
--- Octets that begin no item of the shape, however they go on: what is told, how far in the item, and its cause.
+-- Octets that begin no item of the shape, however they go on: what is told, how far in the item,
+-- and its cause.
 abbrev pub BeginsNoItem : ItemFormat → List ℕ → ℕ → ℕ → Type 0
 BeginsNoItem formats.Spare octets inside cause = ⊥
 BeginsNoItem (formats.Fixed size) octets inside cause = (length octets < size) × (inside ≡ 0) × (cause ≡ item_end)

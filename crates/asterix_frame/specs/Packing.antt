@@ -15,7 +15,8 @@ record_limit = 1000
 abbrev pub block_size : List (List ℕ) → ℕ
 block_size records = length (concat records) + 3
 
--- Each group is the records of one block: it isn't empty and within the limit, and each but the last couldn't take the next one's first record.
+-- Each group is the records of one block: it isn't empty and within the limit, and each but the
+-- last couldn't take the next one's first record.
 abbrev pub AreFilled : List (List (List ℕ)) → Type 0
 AreFilled [] = Unit {0}
 AreFilled (group ∷ []) = (group ≢ []) × (block_size group ≤ block_limit)
@@ -43,7 +44,8 @@ pub record Packed : Type 0 where
   pub full : List (List ℕ)
   pub last : DataBlock
 
--- They hold these records so far: none, or blocks that are filled as far as whole records go, the last one among them.
+-- They hold these records so far: none, or blocks that are filled as far as whole records go, the
+-- last one among them.
 pub record IsPackingOf (category : ℕ) (records : List (List ℕ)) (packed : Packed) : Type 0 where
   pub groups : List (List (List ℕ))
   pub in_last : List (List ℕ)

@@ -1,4 +1,5 @@
--- Fields of presence bits: the FSPEC of a record, and the primary field of a compound item. In each octet bits 8 to 2 name what follows the field, and bit 1, FX, says that the field goes on.
+-- Fields of presence bits: the FSPEC of a record, and the primary field of a compound item. In each
+-- octet bits 8 to 2 name what follows the field, and bit 1, FX, says that the field goes on.
 use Rattle.std.specs.Prelude.{◌≡◌, ℕ, zero, suc, ◌+◌, ◌-◌, ◌*◌, ◌/◌, ◌%◌, ◌<◌, Bool, true, false, ◌==◌, if◌then◌else◌, List, [], ◌∷◌, ◌++◌, length, slice_index}
 use Rattle.std.specs.Int.{bit_at}
 
@@ -12,7 +13,8 @@ pub record IsExtended (octets : List ℕ) : Type 0 where
   pub goes_on : (i : ℕ) → i + 1 < length octets → fx (slice_index octets i) ≡ 1
   pub ends : fx (slice_index octets (length octets - 1)) ≡ 0
 
--- Number 0 has bit 8 of the first octet, number 6 its bit 2, number 7 bit 8 of the second octet, and so on.
+-- Number 0 has bit 8 of the first octet, number 6 its bit 2, number 7 bit 8 of the second octet,
+-- and so on.
 abbrev pub presence : List ℕ → ℕ → ℕ
 presence field n = bit_at (slice_index field (n / 7)) (7 - n % 7)
 
@@ -30,7 +32,8 @@ pub record IsField (known : ℕ → Bool) (field : List ℕ) : Type 0 where
   pub extended : IsExtended field
   pub all_known : (n : ℕ) → presence field n ≡ 1 → known n ≡ true
 
--- So many octets have FX, and all numbers in them stand for something, so the field isn't at its end.
+-- So many octets have FX, and all numbers in them stand for something, so the field isn't at its
+-- end.
 pub record Continues (known : ℕ → Bool) (octets : List ℕ) (count : ℕ) : Type 0 where
   pub goes_on : (i : ℕ) → i < count → fx (slice_index octets i) ≡ 1
   pub all_known : (n : ℕ) → n / 7 < count → presence octets n ≡ 1 → known n ≡ true

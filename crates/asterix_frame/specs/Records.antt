@@ -47,7 +47,8 @@ pub record FaultyItem (table : List ItemFormat) (body : List ℕ) (from : ℕ) (
   pub at_is : at ≡ from + length fspec + length (octets_of items)
   pub offset_is : offset ≡ at + inside
 
--- The body has no whole record from that offset on: the items before the fault, the fault's offset in the body, and its cause.
+-- The body has no whole record from that offset on: the items before the fault, the fault's offset
+-- in the body, and its cause.
 pub data RecordFault (table : List ItemFormat) (body : List ℕ) (from : ℕ) (found : List (ℕ × ℕ × ℕ)) (offset cause : ℕ) : Type 0 where
   ends_in_fspec : EndsInField (knows table) (drop from body) → found ≡ [] → offset ≡ length body → cause ≡ fspec_end → RecordFault table body from found offset cause
   has_spare : (inside : ℕ) → HasSpare (knows table) (drop from body) inside → found ≡ [] → offset ≡ from + inside → cause ≡ spare_frn → RecordFault table body from found offset cause

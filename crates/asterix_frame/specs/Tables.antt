@@ -1,4 +1,6 @@
--- The user application profiles: the data items of each category by FRN, and the subfields of each compound item by bit, as the parts of the standard list them. The program's own tables are proved to be these.
+-- The user application profiles: the data items of each category by FRN, and the subfields of each
+-- compound item by bit, as the parts of the standard list them. The program's own tables are proved
+-- to be these.
 use Rattle.std.specs.Prelude.{ℕ, List, [], ◌∷◌}
 use Rattle.asterix_frame.specs.declared.tables.ItemFormat.{ItemFormat}
 use Rattle.asterix_frame.specs.declared.tables.ItemFormat.TheVariants.{Spare, Fixed, Extended, Repetitive, Explicit, Compound}

@@ -1,4 +1,5 @@
--- What the octets of an item say where the form is the same in all categories (ASTERIX, Part 1): numbers, their bits, and data source identifiers. Octets of another length say nothing.
+-- What the octets of an item say where the form is the same in all categories (ASTERIX, Part 1):
+-- numbers, their bits, and data source identifiers. Octets of another length say nothing.
 use Rattle.std.specs.Prelude.{ℕ, ◌+◌, ◌-◌, ◌*◌, ◌^◌, Bool, ◌==◌, nat_lt, if◌then◌else◌, List, [], ◌∷◌, Option, Some, None, ℤ, pos, ◌-ℤ◌}
 use Rattle.std.specs.Int.{bit_at, bytes_high_first}
 

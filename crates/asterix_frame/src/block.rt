@@ -1,3 +1,4 @@
+// Data blocks, and why octets are none.
 ghost use Rattle.std.specs.Prelude.{◌+◌, ◌<◌, ◌^◌, length};
 
 use std::alloc::AllocFailed;

@@ -15,9 +15,12 @@ use crate::{Block, BlocksError, Malformed};
 use std::alloc::Global;
 use trk_base::DAY;
 
-/// The record that begins at an offset of a block's body, where it is whole and its time of day, if it has one, is below a day.
+/// The record that begins at an offset of a block's body, where it is whole and its time of day, if
+/// it has one, is below a day.
 ///
-/// It is refused exactly where none begins there, by the first fault from the left, with one of the causes `FSPEC_END` to `TIME_RANGE`. A time of day is judged when its item is whole, so before a later item that is cut short.
+/// It is refused exactly where none begins there, by the first fault from the left, with one of the
+/// causes `FSPEC_END` to `TIME_RANGE`. A time of day is judged when its item is whole, so before a
+/// later item that is cut short.
 pub fn first_record(
     alloc: Global,
     uap: Uap,
@@ -47,7 +50,8 @@ pub fn first_record(
 
 /// The records of a block, in order. A block without octets in its body has none.
 ///
-/// It is refused exactly where the body isn't a list of whole records whose times of day are below a day, by the first fault from the left, with one of the causes `FSPEC_END` to `TIME_RANGE`.
+/// It is refused exactly where the body isn't a list of whole records whose times of day are below
+/// a day, by the first fault from the left, with one of the causes `FSPEC_END` to `TIME_RANGE`.
 pub fn records(alloc: Global, uap: Uap, block: &Block<'_>) -> Result<Vec<ItemSpans>, BlocksError>
     ensures found { IfOk result (λ v. HasRecords uap block.now.body.now v.items) }
     ensures spans { IfOk result (λ v. All (AreSpans block.now.body.now) v.items) }
@@ -103,7 +107,8 @@ impl ItemSpans {
     ghost use Rattle.asterix_frame.specs.DataRecords.{item, item_octets, source_of, time_of};
     ghost use Rattle.asterix_frame.specs.Bodies.{AreSpans, elements_at};
 
-    /// The octets of the item with that FRN, if the record has it. `body` is that of the record's block.
+    /// The octets of the item with that FRN, if the record has it. `body` is that of the record's
+    /// block.
     pub fn item<'a>(&self, body: &'a [u8], frn: u8) -> Option<&'a [u8]>
         requires { AreSpans body.now self.now }
         ensures { option_map (λ octets. octets.now) result ≡ item frn (elements_at body.now self.now.frns.items) }
@@ -112,7 +117,8 @@ impl ItemSpans {
         Some(&body[first..end])
     }
 
-    /// The octets of the item with that FRN; those of an item that the record doesn't have are none. `body` is that of the record's block.
+    /// The octets of the item with that FRN; those of an item that the record doesn't have are
+    /// none. `body` is that of the record's block.
     pub fn octets<'a>(&self, body: &'a [u8], frn: u8) -> &'a [u8]
         requires { AreSpans body.now self.now }
         ensures { result.now ≡ item_octets frn (elements_at body.now self.now.frns.items) }
@@ -120,7 +126,8 @@ impl ItemSpans {
         self.item(body, frn).unwrap_or(&[])
     }
 
-    /// The record's data source identifier, SAC and SIC, if it has one. `body` is that of the record's block.
+    /// The record's data source identifier, SAC and SIC, if it has one. `body` is that of the
+    /// record's block.
     pub fn data_source(&self, body: &[u8]) -> Option<(u8, u8)>
         requires { AreSpans body.now self.now }
         ensures { result ≡ source_of (elements_at body.now self.now.frns.items) }

@@ -1,5 +1,5 @@
-//! Why octets are no ASTERIX datagram: the causes that `Malformed` tells, and the octet whose offset
-//! each tells.
+//! Why octets are no ASTERIX datagram: the causes that `Malformed` tells, and the octet whose
+//! offset each tells.
 ghost use Rattle.std.specs.Prelude.{◌≡◌};
 ghost use Rattle.asterix_frame.specs.Causes.{block_short, block_length, fspec_end, spare_frn, item_end, length_zero, unknown_subfield, time_range};
 
@@ -9,7 +9,8 @@ pub const BLOCK_SHORT: u8 = 1;
 pub const BLOCK_LENGTH: u8 = 2;
 /// The block ends after an FSPEC octet with FX. Told at the block's end.
 pub const FSPEC_END: u8 = 3;
-/// A presence bit stands for an FRN that the category's table doesn't have. Told at that FSPEC octet.
+/// A presence bit stands for an FRN that the category's table doesn't have. Told at that FSPEC
+/// octet.
 pub const SPARE_FRN: u8 = 4;
 /// The block ends before the item does. Told at the item's first octet.
 pub const ITEM_END: u8 = 5;
@@ -17,7 +18,8 @@ pub const ITEM_END: u8 = 5;
 pub const LENGTH_ZERO: u8 = 6;
 /// A bit of a compound item's primary field has no subfield. Told at that primary octet.
 pub const UNKNOWN_SUBFIELD: u8 = 7;
-/// A time of day is a day or more. It is judged when its item is whole, and told at the item's first octet.
+/// A time of day is a day or more. It is judged when its item is whole, and told at the item's
+/// first octet.
 pub const TIME_RANGE: u8 = 8;
 
 /// The causes are numbered as the definition numbers them, whose numbers the refusals name.

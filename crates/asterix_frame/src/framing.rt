@@ -11,7 +11,8 @@ use std::alloc::Global;
 
 /// The block that begins at an offset of a datagram.
 ///
-/// It is refused with `BLOCK_SHORT` or `BLOCK_LENGTH` exactly where none begins there. What follows the block begins at its `end`.
+/// It is refused with `BLOCK_SHORT` or `BLOCK_LENGTH` exactly where none begins there. What follows
+/// the block begins at its `end`.
 pub fn first_block(datagram: &[u8], from: usize) -> Result<Block<'_>, Malformed>
     requires { from < length datagram.now }
     ensures found { IfOk result (λ b. BeginsBlock datagram.now from b) }
@@ -45,7 +46,8 @@ pub fn first_block(datagram: &[u8], from: usize) -> Result<Block<'_>, Malformed>
 
 /// The blocks of a datagram, in order. One without octets has none.
 ///
-/// It is refused with `BLOCK_SHORT` or `BLOCK_LENGTH` exactly where it isn't a list of whole blocks, by the first fault from the left. What stands in the blocks isn't judged.
+/// It is refused with `BLOCK_SHORT` or `BLOCK_LENGTH` exactly where it isn't a list of whole
+/// blocks, by the first fault from the left. What stands in the blocks isn't judged.
 pub fn blocks(alloc: Global, datagram: &[u8]) -> Result<Vec<Block<'_>>, BlocksError>
     ensures encoded { IfOk result (λ v. AreDataBlocks (data_blocks v.items) × (datagram.now ≡ encoding (data_blocks v.items))) }
     ensures offsets { IfOk result (λ v. LieFrom 0 v.items) }

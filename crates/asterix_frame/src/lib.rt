@@ -22,7 +22,7 @@ pub use framing::{blocks, first_block, one_block_list};
 pub use packing::{Packing, one_packing};
 pub use record_writer::{RecordWriter, one_encoding};
 pub use tables::{Compound, ItemFormat, SOURCE_FRN, SubfieldFormat, Uap, one_table};
-pub use values::{data_source, has_bit, one_octet, three_octets, two_octets};
+pub use values::{data_source, has_bit, one_number, one_octet, three_octets, two_octets};
 pub use walk::{ItemSpans, ItemWalk, WalkError, one_walk, walk_items, walk_record};
 pub use writer::{BLOCK_LIMIT, BlockWriter, RECORD_LIMIT, one_limit};
 

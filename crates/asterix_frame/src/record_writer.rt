@@ -4,6 +4,7 @@ ghost use Rattle.asterix_frame.specs.declared.tables.Uap.{Uap};
 ghost use Rattle.asterix_frame.specs.declared.tables.SubfieldFormat.{SubfieldFormat};
 ghost use Rattle.asterix_frame.specs.Tables.{table_of};
 ghost use Rattle.asterix_frame.specs.Elements.{Element, octets_of};
+ghost use Rattle.asterix_frame.specs.Presence.{fx, IsExtended};
 ghost use Rattle.asterix_frame.specs.Items.{IsCompound};
 ghost use Rattle.asterix_frame.specs.Packing.{record_limit};
 ghost use Rattle.asterix_frame.specs.Records.{HasRecord, spans};
@@ -138,9 +139,11 @@ fn bit(is_set: bool) -> u8
 }
 
 /// What is encoded of items of a category, in rising FRN, is a record of the category, and a walk
-/// over it finds exactly these items. What is encoded of subfields is a compound item.
+/// over it finds exactly these items. One octet without FX is an extended item, and what is encoded
+/// of subfields a compound one.
 pub fn one_encoding()
     ensures written { (uap : Uap) (items : List Element) → AreDataItems uap items → IsDataRecord uap (record_of items) }
     ensures walk { (uap : Uap) (items : List Element) (body rest : List ℕ) (from : ℕ) → AreDataItems uap items → drop from body ≡ record_octets (record_of items) ++ rest → HasRecord (table_of uap) body from (spans (from + length (record_of items).fspec) items) (from + length (record_octets (record_of items))) }
+    ensures extended { (octet : ℕ) → fx octet ≡ 0 → IsExtended (octet ∷ []) }
     ensures compound { (table : List SubfieldFormat) (subfields : List Element) → AreSubfields table subfields → IsCompound table (compound_of subfields) }
 {}

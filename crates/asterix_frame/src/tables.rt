@@ -76,7 +76,8 @@ impl SubfieldFormat {
     }
 }
 
-/// The FRN of the data source identifier in each category: I034/010, I048/010, I062/010, I063/010 and I065/010. It has two octets, SAC and SIC.
+/// The FRN of the data source identifier in each category: I034/010, I048/010, I062/010, I063/010
+/// and I065/010. It has two octets, SAC and SIC.
 pub const SOURCE_FRN: u8 = 1;
 
 /// The user application profile of a category: its data items by field reference number, from 1
@@ -97,7 +98,20 @@ pub enum Uap {
 
 impl Uap {
     ghost use Rattle.std.specs.Prelude.{◌≡◌};
-    ghost use Rattle.asterix_frame.specs.Tables.{table_of, time_frn};
+    ghost use Rattle.asterix_frame.specs.Tables.{category_of, table_of, time_frn};
+
+    /// The category.
+    pub fn category(self) -> u8
+        ensures { result ≡ category_of self }
+    {
+        match self {
+            Uap::Cat034 => 34,
+            Uap::Cat048 => 48,
+            Uap::Cat062 => 62,
+            Uap::Cat063 => 63,
+            Uap::Cat065 => 65,
+        }
+    }
 
     /// The items by FRN, from 1 on.
     pub fn table(self) -> &'static [ItemFormat]

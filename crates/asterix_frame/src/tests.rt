@@ -178,7 +178,7 @@ fn ends_so(alloc: Global, uap: Uap, record: &[u8], ends: &[usize]) -> bool {
         return false;
     }
     let block = Block {
-        cat: 0,
+        cat: uap.category(),
         at: 0,
         body: record,
     };

@@ -1,7 +1,7 @@
 // What the octets of an item say where the form is the same in all categories.
-ghost use Rattle.std.specs.Prelude.{◌≡◌, ◌≤◌, ◌<◌, ◌^◌};
+ghost use Rattle.std.specs.Prelude.{◌≡◌, ◌≤◌, ◌<◌, ◌^◌, ℕ};
 ghost use Rattle.std.specs.Option.{ForSome};
-ghost use Rattle.asterix_frame.specs.Values.{one_octet, two_octets, three_octets, has_bit, data_source};
+ghost use Rattle.asterix_frame.specs.Values.{big_endian, one_octet, two_octets, three_octets, has_bit, data_source};
 
 /// The whole number in one octet. Octets of another length have none.
 pub fn one_octet(octets: &[u8]) -> Option<u8>
@@ -43,7 +43,8 @@ pub fn has_bit(number: u16, n: u32) -> bool
     number >> (n - 1) & 1 == 1
 }
 
-/// SAC and SIC, the system area code and the system identification code, in the two octets of a data source identifier. Octets of another length have none.
+/// SAC and SIC, the system area code and the system identification code, in the two octets of a
+/// data source identifier. Octets of another length have none.
 pub fn data_source(octets: &[u8]) -> Option<(u8, u8)>
     ensures { result ≡ data_source octets.now }
 {
@@ -52,3 +53,9 @@ pub fn data_source(octets: &[u8]) -> Option<(u8, u8)>
         _ => None,
     }
 }
+
+/// A number written in octets, the highest first, is the number that is read of them.
+pub fn one_number()
+    ensures two { (n : ℕ) → n < 2 ^ 16 → two_octets (big_endian 2 n) ≡ Some n }
+    ensures three { (n : ℕ) → n < 2 ^ 24 → three_octets (big_endian 3 n) ≡ Some n }
+{}

@@ -18,27 +18,33 @@ use trk_base::NoMemory;
 /// The items of a whole record.
 #[derive(Drop)]
 pub struct ItemSpans {
-    /// The FRN, the first octet and the end of each item, in order. The offsets are in the block's body.
+    /// The FRN, the first octet and the end of each item, in order. The offsets are in the block's
+    /// body.
     pub frns: Vec<(u8, usize, usize)>,
     /// The offset of the record's end in the block's body.
     pub next: usize,
 }
 
-/// Why a record wasn't walked: it has a fault with one of the causes `FSPEC_END` to `UNKNOWN_SUBFIELD`, or memory is wanting.
+/// Why a record wasn't walked: it has a fault with one of the causes `FSPEC_END` to
+/// `UNKNOWN_SUBFIELD`, or memory is wanting.
 pub type WalkError = BlocksError;
 
 /// A walk over one record: its whole items, up to its end or to the first fault.
 #[derive(Drop)]
 pub struct ItemWalk {
-    /// The FRN, the first octet and the end of each item, in order. The offsets are in the block's body.
+    /// The FRN, the first octet and the end of each item, in order. The offsets are in the block's
+    /// body.
     pub frns: Vec<(u8, usize, usize)>,
-    /// The offset of the record's end in the block's body, or the first fault, which follows these items.
+    /// The offset of the record's end in the block's body, or the first fault, which follows these
+    /// items.
     pub end: Result<usize, Malformed>,
 }
 
 /// The items of the record that begins at an offset of a block's body.
 ///
-/// It is refused exactly where no whole record begins there, by the first fault from the left, with one of the causes `FSPEC_END` to `UNKNOWN_SUBFIELD`. Each octet of the FSPEC and of a primary field is judged before the next one is asked for.
+/// It is refused exactly where no whole record begins there, by the first fault from the left, with
+/// one of the causes `FSPEC_END` to `UNKNOWN_SUBFIELD`. Each octet of the FSPEC and of a primary
+/// field is judged before the next one is asked for.
 pub fn walk_record(
     alloc: Global,
     uap: Uap,
@@ -62,7 +68,8 @@ pub fn walk_record(
 
 /// The items of the record that begins at an offset of a block's body, as far as they are whole.
 ///
-/// A fault is told with one of the causes `FSPEC_END` to `UNKNOWN_SUBFIELD`; a fault of the FSPEC comes before all items.
+/// A fault is told with one of the causes `FSPEC_END` to `UNKNOWN_SUBFIELD`; a fault of the FSPEC
+/// comes before all items.
 pub fn walk_items(
     alloc: Global,
     uap: Uap,
@@ -137,7 +144,8 @@ fn walk_named(
     })
 }
 
-/// A walk has exactly one answer: a record with its items, or the first fault with the items before it.
+/// A walk has exactly one answer: a record with its items, or the first fault with the items before
+/// it.
 pub fn one_walk()
     ensures some { (table : List ItemFormat) (body : List ℕ) (from offset : ℕ) → (spans : List (ℕ × ℕ × ℕ)) × (end : Result ℕ Malformed) × Walks table offset body from spans end }
     ensures one { (table : List ItemFormat) (body : List ℕ) (from offset : ℕ) (spans spans' : List (ℕ × ℕ × ℕ)) (end end' : Result ℕ Malformed) → Walks table offset body from spans end → Walks table offset body from spans' end' → (spans ≡ spans') × (end ≡ end') }

@@ -8,7 +8,8 @@ use Rattle.asterix_frame.specs.Values.{one_octet, two_octets}
 use Rattle.asterix_frame.specs.DataRecords.{DataRecord, item_octets, source_of, time_of}
 use Rattle.cat034_in.specs.declared.service.Service.{Service}
 
--- FRN 2 is I034/000, the message type, 4 is 020, the sector, and 5 is 041, the rotation period. Beside the source and the time of day all other items are passed over.
+-- FRN 2 is I034/000, the message type, 4 is 020, the sector, and 5 is 041, the rotation period.
+-- Beside the source and the time of day all other items are passed over.
 unfoldable pub service_of : List Element → Service
 service_of items = record {
   source = source_of items;

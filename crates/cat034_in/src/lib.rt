@@ -1,4 +1,5 @@
-//! Radar service messages: north markers and sector crossings, by their items (EUROCONTROL ASTERIX, Part 2b, category 034).
+//! Radar service messages: north markers and sector crossings, by their items (EUROCONTROL ASTERIX,
+//! Part 2b, category 034).
 #![tactic(auto)]
 
 mod reader;

@@ -11,19 +11,21 @@ use crate::Service;
 use asterix_frame::{Block, BlocksError, ItemSpans, Uap, one_octet, records, two_octets};
 use std::alloc::Global;
 
-/// I034/000, message type.
+// I034/000, message type.
 const KIND: u8 = 2;
-/// I034/020, sector number.
+// I034/020, sector number.
 const SECTOR: u8 = 4;
-/// I034/041, antenna rotation period.
+// I034/041, antenna rotation period.
 const ROTATION: u8 = 5;
 
-/// Why a block wasn't read: it has a fault with one of the causes `FSPEC_END` to `TIME_RANGE` of `asterix_frame::cause`, or memory is wanting.
+/// Why a block wasn't read: it has a fault with one of the causes `FSPEC_END` to `TIME_RANGE` of
+/// `asterix_frame::cause`, or memory is wanting.
 pub type ReadError = BlocksError;
 
 /// The service messages of a block of category 34, in order.
 ///
-/// It is refused exactly where the block's body isn't a list of whole records whose times of day are below a day, by the first fault from the left; then none of its messages is told.
+/// It is refused exactly where the block's body isn't a list of whole records whose times of day
+/// are below a day, by the first fault from the left; then none of its messages is told.
 pub fn read034(alloc: Global, block: &Block<'_>) -> Result<Vec<Service>, ReadError>
     requires { block.now.cat ≡ 34 }
     ensures read { IfOk result (λ v. (rs : List DataRecord) × IsBody Cat034 block.now.body.now rs × (v.items ≡ services_of rs)) }

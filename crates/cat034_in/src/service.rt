@@ -1,4 +1,7 @@
-/// A service message of a radar: what one record of category 034 tells. An item that the record doesn't have is `None`.
+// A service message.
+
+/// A service message of a radar: what one record of category 034 tells. An item that the record
+/// doesn't have is `None`.
 #[derive(Clone, Copy, Debug, PartialEq, Eq)]
 pub struct Service {
     /// The system area code and the system identification code of the radar (I034/010).

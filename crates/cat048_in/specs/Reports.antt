@@ -7,7 +7,8 @@ use Rattle.cat048_in.specs.declared.report.Report.{Report}
 use Rattle.cat048_in.specs.Values.{below_day, kind_of, simulated_of, spi_of, monitor_of, test_of, polar_of, code_of, level_of, address_of}
 use Rattle.cat048_in.specs.InRange.{kind_in_range, time_in_range, code_in_range, level_in_range, address_in_range}
 
--- FRN 3 is I048/020, 4 is 040, 5 is 070, 6 is 090, and 8 is 220. Beside the source and the time of day all other items are passed over.
+-- FRN 3 is I048/020, 4 is 040, 5 is 070, 6 is 090, and 8 is 220. Beside the source and the time of
+-- day all other items are passed over.
 unfoldable pub report_of : List Element → Report
 report_of items = record {
   source = source_of items;

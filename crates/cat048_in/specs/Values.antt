@@ -1,4 +1,5 @@
--- What the octets of an item of a target report say (ASTERIX, Part 4, category 048). An item that isn't of its length says nothing.
+-- What the octets of an item of a target report say (ASTERIX, Part 4, category 048). An item that
+-- isn't of its length says nothing.
 use Rattle.std.specs.Prelude.{ℕ, ◌/◌, ◌%◌, ◌^◌, Bool, false, nat_lt, ◌||◌, if◌then◌else◌, List, [], ◌∷◌, Option, Some, None, ℤ}
 use Rattle.std.specs.Option.{option_map, option_and_then}
 use Rattle.trk_base.specs.Numbers.{day}

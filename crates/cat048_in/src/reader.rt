@@ -15,23 +15,25 @@ use crate::values::{
 use asterix_frame::{Block, BlocksError, ItemSpans, Uap, records};
 use std::alloc::Global;
 
-/// I048/020, target report descriptor.
+// I048/020, target report descriptor.
 const DESCRIPTOR: u8 = 3;
-/// I048/040, measured position in polar co-ordinates.
+// I048/040, measured position in polar co-ordinates.
 const POSITION: u8 = 4;
-/// I048/070, Mode 3/A code.
+// I048/070, Mode 3/A code.
 const CODE: u8 = 5;
-/// I048/090, flight level.
+// I048/090, flight level.
 const LEVEL: u8 = 6;
-/// I048/220, aircraft address.
+// I048/220, aircraft address.
 const ADDRESS: u8 = 8;
 
-/// Why a block wasn't read: it has a fault with one of the causes `FSPEC_END` to `TIME_RANGE` of `asterix_frame::cause`, or memory is wanting.
+/// Why a block wasn't read: it has a fault with one of the causes `FSPEC_END` to `TIME_RANGE` of
+/// `asterix_frame::cause`, or memory is wanting.
 pub type ReadError = BlocksError;
 
 /// The target reports of a block of category 48, in order.
 ///
-/// It is refused exactly where the block's body isn't a list of whole records whose times of day are below a day, by the first fault from the left; then none of its reports is told.
+/// It is refused exactly where the block's body isn't a list of whole records whose times of day
+/// are below a day, by the first fault from the left; then none of its reports is told.
 pub fn read048(alloc: Global, block: &Block<'_>) -> Result<Vec<Report>, ReadError>
     requires { block.now.cat ≡ 48 }
     ensures read { IfOk result (λ v. (rs : List DataRecord) × IsBody Cat048 block.now.body.now rs × (v.items ≡ reports_of rs)) }

@@ -1,10 +1,12 @@
+// A target report, and the plot that it tells.
 ghost use Rattle.std.specs.Prelude.{◌≡◌, ◌≤◌};
 ghost use Rattle.std.specs.Option.{ForSome};
 ghost use Rattle.trk_base.specs.Ranges.{IsTimeOfDay, IsCode, IsLevel, IsAddress};
 
 use trk_base::RawPlot;
 
-/// A target report, with the values that are used of it. What the record doesn't have is `None` or false.
+/// A target report, with the values that are used of it. What the record doesn't have is `None` or
+/// false.
 #[derive(Clone, Copy, Debug, PartialEq, Eq)]
 pub struct Report {
     /// System area code and system identification code, I048/010.
@@ -21,11 +23,13 @@ pub struct Report {
     pub spi: bool,
     /// A report from the field monitor, a fixed transponder, I048/020 RAB.
     pub monitor: bool,
-    /// Slant range in 1/256 NM, and azimuth in 360/65,536 degrees clockwise from the radar's north, I048/040.
+    /// Slant range in 1/256 NM, and azimuth in 360/65,536 degrees clockwise from the radar's north,
+    /// I048/040.
     pub polar: Option<(u16, u16)>,
     /// Mode 3/A code, 12 bits, I048/070. One that isn't validated or is garbled is left out.
     pub code: Option<u16>,
-    /// Flight level in 1/4 FL, 14 bits signed, I048/090. One that isn't validated or is garbled is left out.
+    /// Flight level in 1/4 FL, 14 bits signed, I048/090. One that isn't validated or is garbled is
+    /// left out.
     pub level: Option<i16>,
     /// Aircraft address, 24 bits, I048/220.
     pub address: Option<u32>,
@@ -61,7 +65,8 @@ impl Report {
 
     /// The plot that the report tells. It takes no memory.
     ///
-    /// It is refused exactly where the report has no source, no time, no position or no detection, or is of a test target, simulated or from the field monitor, and then by the first of these.
+    /// It is refused exactly where the report has no source, no time, no position or no detection,
+    /// or is of a test target, simulated or from the field monitor, and then by the first of these.
     pub fn plot(&self) -> Result<RawPlot, NotPlot>
         ensures { result ≡ plot_of self.now }
     {

@@ -1,5 +1,5 @@
 use crate::{NotPlot, ReadError, Report, read048};
-use asterix_frame::{Malformed, blocks, cause, first_block};
+use asterix_frame::{Malformed, blocks, first_block};
 use std::alloc::Global;
 use std::test::Fail;
 
@@ -108,23 +108,23 @@ const FAULTY_BLOCKS: [u8; 120] = [
 ];
 
 const FAULTS: [(usize, u8); 17] = [
-    (4, cause::FSPEC_END),
-    (11, cause::SPARE_FRN),
-    (19, cause::ITEM_END),
-    (24, cause::ITEM_END),
-    (30, cause::ITEM_END),
-    (35, cause::ITEM_END),
-    (44, cause::ITEM_END),
-    (51, cause::ITEM_END),
-    (57, cause::ITEM_END),
-    (62, cause::ITEM_END),
-    (70, cause::ITEM_END),
-    (80, cause::LENGTH_ZERO),
-    (89, cause::LENGTH_ZERO),
-    (96, cause::UNKNOWN_SUBFIELD),
-    (102, cause::UNKNOWN_SUBFIELD),
-    (107, cause::TIME_RANGE),
-    (119, cause::ITEM_END),
+    (4, 3),
+    (11, 4),
+    (19, 5),
+    (24, 5),
+    (30, 5),
+    (35, 5),
+    (44, 5),
+    (51, 5),
+    (57, 5),
+    (62, 5),
+    (70, 5),
+    (80, 6),
+    (89, 6),
+    (96, 7),
+    (102, 7),
+    (107, 8),
+    (119, 5),
 ];
 
 #[test]
@@ -143,24 +143,18 @@ fn tells_the_first_fault(rt: HostRuntime) -> Result<(), Fail> {
 // A datagram of one block, and what is told of it: its first fault, or the number of its reports.
 const FRAMES: [(&[u8], Result<usize, (usize, u8)>); 9] = [
     (&[0x30, 0x00, 0x03], Ok(0)),
-    (&[0x30, 0x00, 0x04, 0x81], Err((4, cause::FSPEC_END))),
+    (&[0x30, 0x00, 0x04, 0x81], Err((4, 3))),
     (
         &[0x30, 0x00, 0x08, 0x01, 0x01, 0x01, 0x01, 0x80],
-        Err((7, cause::SPARE_FRN)),
+        Err((7, 4)),
     ),
-    (&[0x30, 0x00, 0x05, 0x80, 0x01], Err((4, cause::ITEM_END))),
+    (&[0x30, 0x00, 0x05, 0x80, 0x01], Err((4, 5))),
     (
         &[0x30, 0x00, 0x08, 0x01, 0x01, 0x01, 0x02, 0x00],
-        Err((7, cause::LENGTH_ZERO)),
+        Err((7, 6)),
     ),
-    (
-        &[0x30, 0x00, 0x06, 0x02, 0x01, 0x80],
-        Err((5, cause::UNKNOWN_SUBFIELD)),
-    ),
-    (
-        &[0x30, 0x00, 0x07, 0x40, 0xA8, 0xC0, 0x00],
-        Err((4, cause::TIME_RANGE)),
-    ),
+    (&[0x30, 0x00, 0x06, 0x02, 0x01, 0x80], Err((5, 7))),
+    (&[0x30, 0x00, 0x07, 0x40, 0xA8, 0xC0, 0x00], Err((4, 8))),
     (&[0x30, 0x00, 0x07, 0x40, 0xA8, 0xBF, 0xFF], Ok(1)),
     (&[0x30, 0x00, 0x06, 0x01, 0x20, 0x00], Ok(1)),
 ];
@@ -211,7 +205,8 @@ fn takes_codes_and_levels(rt: HostRuntime) -> Result<(), Fail> {
     Ok(())
 }
 
-// Kinds 0 and 7 alone, and kind 1 with one bit each: SIM, RDP, SPI, RAB, TST, and the others of the first extension.
+// Kinds 0 and 7 alone, and kind 1 with one bit each: SIM, RDP, SPI, RAB, TST, and the others of the
+// first extension.
 const DESCRIPTORS: [u8; 22] = [
     0x30, 0x00, 0x16, 0x20, 0x00, 0x20, 0xE0, 0x20, 0x30, 0x20, 0x28, 0x20, 0x24, 0x20, 0x22, 0x20,
     0x21, 0x80, 0x20, 0x21, 0x7F, 0xFE,
@@ -232,7 +227,8 @@ fn takes_descriptors(rt: HostRuntime) -> Result<(), Fail> {
     Ok(())
 }
 
-// Reports that are no plots, in the order in which the reasons are told, each with reasons of later ones, and a plot.
+// Reports that are no plots, in the order in which the reasons are told, each with reasons of later
+// ones, and a plot.
 const PLOTS: [u8; 83] = [
     0x30, 0x00, 0x53, 0x40, 0x00, 0x00, 0x01, 0x80, 0x01, 0x02, 0xC0, 0x01, 0x02, 0x46, 0x50, 0x0A,
     0xD0, 0x01, 0x02, 0x46, 0x50, 0x0A, 0x01, 0x00, 0x40, 0x00, 0xF0, 0x01, 0x02, 0x46, 0x50, 0x0A,

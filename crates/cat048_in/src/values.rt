@@ -8,19 +8,21 @@ use asterix_frame::{has_bit, three_octets, two_octets};
 use trk_base::DAY;
 
 // Bits of I048/020, as the standard counts them: 1 is the lowest of its octet.
-/// SIM, in the first octet: the report is simulated.
+
+// SIM, in the first octet: the report is simulated.
 const SIMULATED: u32 = 5;
-/// SPI, in the first octet: special position identification.
+// SPI, in the first octet: special position identification.
 const SPECIAL_POSITION: u32 = 3;
-/// RAB, in the first octet: the report is from the field monitor.
+// RAB, in the first octet: the report is from the field monitor.
 const FIELD_MONITOR: u32 = 2;
-/// TST, in the first extension: the report is of a test target.
+// TST, in the first extension: the report is of a test target.
 const TEST_TARGET: u32 = 8;
 
 // Bits of I048/070 and I048/090.
-/// V: the value isn't validated.
+
+// V: the value isn't validated.
 const NOT_VALIDATED: u32 = 16;
-/// G: the value is garbled.
+// G: the value is garbled.
 const GARBLED: u32 = 15;
 
 // Whether a code or a level isn't validated or is garbled.
@@ -42,7 +44,7 @@ fn undoubted(octets: &[u8]) -> Option<u16>
     }
 }
 
-/// A time of day, where it is below a day. In a whole record it is.
+// A time of day, where it is below a day. In a whole record it is.
 pub(crate) fn below_day(time: Option<u32>) -> Option<u32>
     ensures value { result ≡ below_day time }
     ensures in_range { ForSome result IsTimeOfDay }
@@ -50,7 +52,7 @@ pub(crate) fn below_day(time: Option<u32>) -> Option<u32>
     time.filter(|time| u64::from(*time) < DAY)
 }
 
-/// TYP, of I048/020.
+// TYP, of I048/020.
 pub(crate) fn kind_of(octets: &[u8]) -> Option<u8>
     ensures value { result ≡ kind_of octets.now }
     ensures in_range { ForSome result (λ k. k ≤ 7) }
@@ -59,7 +61,7 @@ pub(crate) fn kind_of(octets: &[u8]) -> Option<u8>
     Some(first >> 5)
 }
 
-/// SIM, of I048/020.
+// SIM, of I048/020.
 pub(crate) fn simulated_of(octets: &[u8]) -> bool
     ensures { result ≡ simulated_of octets.now }
 {
@@ -68,7 +70,7 @@ pub(crate) fn simulated_of(octets: &[u8]) -> bool
         .is_some_and(|first| has_bit(u16::from(*first), SIMULATED))
 }
 
-/// SPI, of I048/020.
+// SPI, of I048/020.
 pub(crate) fn spi_of(octets: &[u8]) -> bool
     ensures { result ≡ spi_of octets.now }
 {
@@ -77,7 +79,7 @@ pub(crate) fn spi_of(octets: &[u8]) -> bool
         .is_some_and(|first| has_bit(u16::from(*first), SPECIAL_POSITION))
 }
 
-/// RAB, of I048/020.
+// RAB, of I048/020.
 pub(crate) fn monitor_of(octets: &[u8]) -> bool
     ensures { result ≡ monitor_of octets.now }
 {
@@ -86,7 +88,7 @@ pub(crate) fn monitor_of(octets: &[u8]) -> bool
         .is_some_and(|first| has_bit(u16::from(*first), FIELD_MONITOR))
 }
 
-/// TST, of I048/020.
+// TST, of I048/020.
 pub(crate) fn test_of(octets: &[u8]) -> bool
     ensures { result ≡ test_of octets.now }
 {
@@ -96,7 +98,7 @@ pub(crate) fn test_of(octets: &[u8]) -> bool
     }
 }
 
-/// RHO and THETA, of I048/040.
+// RHO and THETA, of I048/040.
 pub(crate) fn polar_of(octets: &[u8]) -> Option<(u16, u16)>
     ensures { result ≡ polar_of octets.now }
 {
@@ -109,7 +111,7 @@ pub(crate) fn polar_of(octets: &[u8]) -> Option<(u16, u16)>
     }
 }
 
-/// The code of I048/070, unless it isn't validated or is garbled.
+// The code of I048/070, unless it isn't validated or is garbled.
 pub(crate) fn code_of(octets: &[u8]) -> Option<u16>
     ensures value { result ≡ code_of octets.now }
     ensures in_range { IsCode result }
@@ -118,7 +120,7 @@ pub(crate) fn code_of(octets: &[u8]) -> Option<u16>
     Some(number % 0x1000)
 }
 
-/// The level of I048/090, unless it isn't validated or is garbled.
+// The level of I048/090, unless it isn't validated or is garbled.
 pub(crate) fn level_of(octets: &[u8]) -> Option<i16>
     ensures value { result ≡ level_of octets.now }
     ensures in_range { IsLevel result }
@@ -132,7 +134,7 @@ pub(crate) fn level_of(octets: &[u8]) -> Option<i16>
     }
 }
 
-/// The address of I048/220.
+// The address of I048/220.
 pub(crate) fn address_of(octets: &[u8]) -> Option<u32>
     ensures value { result ≡ address_of octets.now }
     ensures in_range { IsAddress result }
