@@ -35,8 +35,12 @@ same_made s t e f h =
     let P : Fields → Type 0 = λ z. (g : Ranges z) → made s e ≡ made z g in
     subst P h (λ g. ap (made s) (ranges_prop s e g)) f
 
+-- biases with the same numbers are one
+pub same_bias : (a b : Bias) → a.gain ≡ b.gain → a.range ≡ b.range → a.azimuth ≡ b.azimuth → a ≡ b
+same_bias a b g r z =
+    same_made (a.gain, (a.range, a.azimuth)) (b.gain, (b.range, b.azimuth)) (a.gain_range, a.range_range, a.azimuth_range) (b.gain_range, b.range_range, b.azimuth_range) (λ i. (g i, (r i, z i)))
+
 pub bias_cmp_exact : CmpEqualImpliesEq bias_cmp
 bias_cmp_exact a b h =
-    same_made (a.gain, (a.range, a.azimuth)) (b.gain, (b.range, b.azimuth))
-    (a.gain_range, a.range_range, a.azimuth_range) (b.gain_range, b.range_range, b.azimuth_range)
-    (exact_pairs int_cmp _ exact_signed (exact_pairs int_cmp int_cmp exact_signed exact_signed) (a.gain, (a.range, a.azimuth)) (b.gain, (b.range, b.azimuth)) h)
+    let e : ◌≡◌ {A = Fields} (a.gain, (a.range, a.azimuth)) (b.gain, (b.range, b.azimuth)) = exact_pairs int_cmp _ exact_signed (exact_pairs int_cmp int_cmp exact_signed exact_signed) (a.gain, (a.range, a.azimuth)) (b.gain, (b.range, b.azimuth)) h in
+    same_bias a b (λ i. (e i).0) (λ i. (e i).1.0) (λ i. (e i).1.1)

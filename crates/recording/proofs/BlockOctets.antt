@@ -1,16 +1,16 @@
--- What octets begin: a data block, a head with a length that is too small, or a block that is cut short.
-use Rattle.std.proofs.Common.{◌≡◌, ◌∙◌, ap, sym, refl, inl, inr, ℕ, ◌+◌, ◌-◌, ◌*◌, ◌<◌, ◌≤◌, List, [], ◌∷◌, ◌++◌, length, get_or, take, drop, arith, length-append}
+-- What octets begin: a data block, a head with a length that is too small, or a block that is truncated.
+use Rattle.std.proofs.Common.{◌≡◌, ◌∙◌, ap, sym, refl, subst, append-nil, inl, inr, ℕ, ◌+◌, ◌-◌, ◌*◌, ◌<◌, ◌≤◌, List, [], ◌∷◌, ◌++◌, length, get_or, take, drop, arith, length-append}
 use Rattle.std.specs.Int.{w16, to_be_bytes}
 use Rattle.std.proofs.lemmas.Bool.{cases_lt}
 use Rattle.std.proofs.lemmas.List.{length-take-le, take-append-drop}
 use Rattle.asterix_frame.specs.Blocks.{DataBlock, IsDataBlock, BeginsNone, spelled}
 use Rattle.asterix_frame.proofs.Heads.{same_block, two_octets}
-use Rattle.recording.specs.Blocks.{IsNoBlock, IsCutBlock}
-use Rattle.recording.proofs.Codes.{IsCode, IsBytes, Begins, Decides}
-use Rattle.recording.proofs.Octets.{zeros, length-zeros}
+use Rattle.recording.specs.Blocks.{IsNoBlock, IsTruncatedBlock}
+use Rattle.recording.proofs.Codes.{IsCode, IsBytes, Begins, Decides, truncated_first}
+use Rattle.recording.proofs.Zeros.{zeros, length-zeros}
 
 abbrev BeginsBlock : List ℕ → Type 0
-BeginsBlock = Begins DataBlock IsDataBlock spelled IsNoBlock
+BeginsBlock = Begins DataBlock IsDataBlock spelled IsNoBlock IsTruncatedBlock
 
 spelled_some : (b : DataBlock) → 0 < length (spelled b)
 spelled_some b = omega arith
@@ -18,22 +18,22 @@ spelled_some b = omega arith
 block_is : (category high low : ℕ) (body : List ℕ) → high < 256 → low < 256 → length body + 3 ≡ 256 * high + low → spelled (record { category = category; body = body }) ≡ category ∷ high ∷ low ∷ body
 block_is category high low body h l long = ap (λ (t : List ℕ). category ∷ (t ++ body)) (ap (to_be_bytes w16) long ∙ two_octets high low h l)
 
-cut_head : (rest more : List ℕ) (category high low : ℕ) (body : List ℕ) → high < 256 → low < 256 → length body + 3 ≡ 256 * high + low → 0 < length rest → 0 < length more → category ∷ high ∷ low ∷ body ≡ rest ++ more → IsCutBlock rest
+cut_head : (rest more : List ℕ) (category high low : ℕ) (body : List ℕ) → high < 256 → low < 256 → length body + 3 ≡ 256 * high + low → 0 < length rest → 0 < length more → category ∷ high ∷ low ∷ body ≡ rest ++ more → IsTruncatedBlock rest
 cut_head rest more category high low body h l long begun missing e =
     record { one = record { category = category; body = body }; fits = omega arith; more = more; begun = begun; missing = missing; whole = block_is category high low body h l long ∙ e }
 
 -- a head whose length reaches past the end
-pub cut_body : (category high low : ℕ) (rest : List ℕ) → high < 256 → low < 256 → 3 ≤ 256 * high + low → length rest + 3 < 256 * high + low → IsCutBlock (category ∷ high ∷ low ∷ rest)
+pub cut_body : (category high low : ℕ) (rest : List ℕ) → high < 256 → low < 256 → 3 ≤ 256 * high + low → length rest + 3 < 256 * high + low → IsTruncatedBlock (category ∷ high ∷ low ∷ rest)
 cut_body category high low rest h l big far =
     let gap = 256 * high + low - 3 - length rest in
     let long : length (rest ++ zeros gap) + 3 ≡ 256 * high + low = omega (arith, length-append rest (zeros gap), length-zeros gap) in
     cut_head (category ∷ high ∷ low ∷ rest) (zeros gap) category high low (rest ++ zeros gap) h l long (omega arith) (omega (arith, length-zeros gap)) refl
 
 -- a head that isn't whole
-pub cut_one : (category : ℕ) → IsCutBlock (category ∷ [])
+pub cut_one : (category : ℕ) → IsTruncatedBlock (category ∷ [])
 cut_one category = cut_head (category ∷ []) (0 ∷ 3 ∷ []) category 0 3 [] (omega arith) (omega arith) refl (omega arith) (omega arith) refl
 
-pub cut_two : (category high : ℕ) → high < 256 → IsCutBlock (category ∷ high ∷ [])
+pub cut_two : (category high : ℕ) → high < 256 → IsTruncatedBlock (category ∷ high ∷ [])
 cut_two category high h =
     let long : length (zeros (256 * high)) + 3 ≡ 256 * high + 3 = omega (arith, length-zeros (256 * high)) in
     cut_head (category ∷ high ∷ []) (3 ∷ zeros (256 * high)) category high 3 (zeros (256 * high)) h (omega arith) long (omega arith) (omega arith) refl
@@ -59,7 +59,7 @@ begins (a ∷ b ∷ c ∷ rest) bytes some =
       ]
     ]
 
-pub blocks_decided : Decides DataBlock IsDataBlock spelled IsNoBlock
+pub blocks_decided : Decides DataBlock IsDataBlock spelled IsNoBlock IsTruncatedBlock
 blocks_decided = record { some = spelled_some; begins = begins }
 
 no_block : IsNoBlock [] → ⊥
@@ -74,11 +74,24 @@ no_block_on (a ∷ b ∷ c ∷ rest) more h = h
 no_block_first : (b : DataBlock) (more : List ℕ) → IsDataBlock b → IsNoBlock (spelled b ++ more) → ⊥
 no_block_first b more fits h = omega (arith, fits, h)
 
-pub blocks_code : IsCode DataBlock IsDataBlock spelled IsNoBlock
-blocks_code = record { some = spelled_some; same = same_block; other_some = no_block; goes_on = no_block_on; none = no_block_first }
+other_cut : (rest : List ℕ) → IsNoBlock rest → IsTruncatedBlock rest → ⊥
+other_cut rest o h = no_block_first h.one [] h.fits (subst IsNoBlock (sym h.whole ∙ sym (append-nil (spelled h.one))) (no_block_on rest h.more o))
+
+pub blocks_code : IsCode DataBlock IsDataBlock spelled IsNoBlock IsTruncatedBlock
+blocks_code =
+    record {
+      some = spelled_some;
+      same = same_block;
+      other_some = no_block;
+      goes_on = no_block_on;
+      none = no_block_first;
+      cut_some = λ rest h. h.begun;
+      cut_first = truncated_first same_block;
+      other_cut = other_cut;
+    }
 
 -- where no block begins, and no length is too small
-pub cut_at : (octets : List ℕ) (inside cause : ℕ) → IsBytes octets → BeginsNone octets inside cause → (3 ≤ length octets → 3 ≤ 256 * get_or octets 1 0 + get_or octets 2 0) → IsCutBlock octets
+pub cut_at : (octets : List ℕ) (inside cause : ℕ) → IsBytes octets → BeginsNone octets inside cause → (3 ≤ length octets → 3 ≤ 256 * get_or octets 1 0 + get_or octets 2 0) → IsTruncatedBlock octets
 cut_at [] inside cause bytes none big = absurd none
 cut_at (a ∷ []) inside cause bytes none big = cut_one a
 cut_at (a ∷ b ∷ []) inside cause bytes none big = cut_two a b (bytes 1)

@@ -7,62 +7,63 @@ use Rattle.std.proofs.lemmas.List.Concat.{flat_map-append}
 use Rattle.std.specs.Prelude.{All}
 use Rattle.recording.specs.declared.ending.Ending.{Ending}
 use Rattle.recording.specs.declared.ending.Ending.TheVariants.{Nothing, Other, Cut}
-use Rattle.recording.specs.Endings.{IsCutShort, EndsSo, AreWritten}
+use Rattle.recording.specs.Endings.{IsTruncated, EndsSo, AreWritten}
 
-pub record IsCode (T : Type 0) (Fits : T → Type 0) (spelled : T → List ℕ) (IsOther : List ℕ → Type 0) : Type 0 where
-  pub some : (x : T) → 0 < length (spelled x)
-  pub same : (x y : T) (r t : List ℕ) → Fits x → Fits y → spelled x ++ r ≡ spelled y ++ t → (x ≡ y) × (r ≡ t)
+pub record IsCode (T : Type 0) (Fits : T → Type 0) (encoded : T → List ℕ) (IsOther : List ℕ → Type 0) (IsCut : List ℕ → Type 0) : Type 0 where
+  pub some : (x : T) → 0 < length (encoded x)
+  pub same : (x y : T) (r t : List ℕ) → Fits x → Fits y → encoded x ++ r ≡ encoded y ++ t → (x ≡ y) × (r ≡ t)
   pub other_some : IsOther [] → ⊥
   pub goes_on : (rest more : List ℕ) → IsOther rest → IsOther (rest ++ more)
-  pub none : (x : T) (more : List ℕ) → Fits x → IsOther (spelled x ++ more) → ⊥
+  pub none : (x : T) (more : List ℕ) → Fits x → IsOther (encoded x ++ more) → ⊥
+  pub cut_some : (rest : List ℕ) → IsCut rest → 0 < length rest
+  pub cut_first : (rest : List ℕ) (x : T) (next : List ℕ) → IsCut rest → Fits x → rest ≡ encoded x ++ next → ⊥
+  pub other_cut : (rest : List ℕ) → IsOther rest → IsCut rest → ⊥
 
-cut_first : {T : Type 0} {Fits : T → Type 0} {spelled : T → List ℕ} {IsOther : List ℕ → Type 0} (code : IsCode T Fits spelled IsOther) (rest : List ℕ) (x : T) (next : List ℕ) → IsCutShort T Fits spelled rest → Fits x → rest ≡ spelled x ++ next → ⊥
-cut_first {spelled} code rest x next h fits e =
-    let both : spelled h.one ++ [] ≡ spelled x ++ (next ++ h.more) = append-nil (spelled h.one) ∙ h.whole ∙ ap (λ t. t ++ h.more) e ∙ append_assoc (spelled x) next h.more in
-    let one = code.same h.one x [] (next ++ h.more) h.fits fits both in
+-- a prefix of one, and not all of it, begins with no whole one
+pub truncated_first : {T : Type 0} {Fits : T → Type 0} {encoded : T → List ℕ} (same : (x y : T) (r t : List ℕ) → Fits x → Fits y → encoded x ++ r ≡ encoded y ++ t → (x ≡ y) × (r ≡ t)) (rest : List ℕ) (x : T) (next : List ℕ) → IsTruncated T Fits encoded rest → Fits x → rest ≡ encoded x ++ next → ⊥
+truncated_first {encoded} same rest x next h fits e =
+    let both : encoded h.one ++ [] ≡ encoded x ++ (next ++ h.more) = append-nil (encoded h.one) ∙ h.whole ∙ ap (λ t. t ++ h.more) e ∙ append_assoc (encoded x) next h.more in
+    let one = same h.one x [] (next ++ h.more) h.fits fits both in
     omega (arith, ap length one.1, length-append next h.more, h.missing)
 
 -- where a reading ends none begins
-pub ends_none : {T : Type 0} {Fits : T → Type 0} {spelled : T → List ℕ} {IsOther : List ℕ → Type 0} (code : IsCode T Fits spelled IsOther) (ending : Ending) (rest : List ℕ) (x : T) (next : List ℕ) → EndsSo T Fits spelled IsOther ending rest → Fits x → rest ≡ spelled x ++ next → ⊥
-ends_none {spelled} code Nothing rest x next h fits e = omega (arith, code.some x, ap length (sym h ∙ e), length-append (spelled x) next)
+pub ends_none : {T : Type 0} {Fits : T → Type 0} {encoded : T → List ℕ} {IsOther : List ℕ → Type 0} {IsCut : List ℕ → Type 0} (code : IsCode T Fits encoded IsOther IsCut) (ending : Ending) (rest : List ℕ) (x : T) (next : List ℕ) → EndsSo IsOther IsCut ending rest → Fits x → rest ≡ encoded x ++ next → ⊥
+ends_none {encoded} code Nothing rest x next h fits e = omega (arith, code.some x, ap length (sym h ∙ e), length-append (encoded x) next)
 ends_none {IsOther} code Other rest x next h fits e = code.none x next fits (subst IsOther e h)
-ends_none code Cut rest x next h fits e = cut_first code rest x next h fits e
-
-other_cut : {T : Type 0} {Fits : T → Type 0} {spelled : T → List ℕ} {IsOther : List ℕ → Type 0} (code : IsCode T Fits spelled IsOther) (rest : List ℕ) → IsOther rest → IsCutShort T Fits spelled rest → ⊥
-other_cut {spelled} {IsOther} code rest o h = code.none h.one [] h.fits (subst IsOther (sym h.whole ∙ sym (append-nil (spelled h.one))) (code.goes_on rest h.more o))
+ends_none code Cut rest x next h fits e = code.cut_first rest x next h fits e
 
 some_rest : (rest : List ℕ) → rest ≡ [] → 0 < length rest → ⊥
 some_rest rest e some = omega (arith, ap length e)
 
-no_other : {T : Type 0} {Fits : T → Type 0} {spelled : T → List ℕ} {IsOther : List ℕ → Type 0} (code : IsCode T Fits spelled IsOther) (rest : List ℕ) → rest ≡ [] → IsOther rest → ⊥
+no_other : {T : Type 0} {Fits : T → Type 0} {encoded : T → List ℕ} {IsOther : List ℕ → Type 0} {IsCut : List ℕ → Type 0} (code : IsCode T Fits encoded IsOther IsCut) (rest : List ℕ) → rest ≡ [] → IsOther rest → ⊥
 no_other {IsOther} code rest e o = code.other_some (subst IsOther e o)
 
 -- it ends in one way
-pub endings_same : {T : Type 0} {Fits : T → Type 0} {spelled : T → List ℕ} {IsOther : List ℕ → Type 0} (code : IsCode T Fits spelled IsOther) (e f : Ending) (rest : List ℕ) → EndsSo T Fits spelled IsOther e rest → EndsSo T Fits spelled IsOther f rest → e ≡ f
+pub endings_same : {T : Type 0} {Fits : T → Type 0} {encoded : T → List ℕ} {IsOther : List ℕ → Type 0} {IsCut : List ℕ → Type 0} (code : IsCode T Fits encoded IsOther IsCut) (e f : Ending) (rest : List ℕ) → EndsSo IsOther IsCut e rest → EndsSo IsOther IsCut f rest → e ≡ f
 endings_same code Nothing Nothing rest h k = refl
 endings_same code Nothing Other rest h k = absurd (no_other code rest h k)
-endings_same code Nothing Cut rest h k = absurd (some_rest rest h k.begun)
+endings_same code Nothing Cut rest h k = absurd (some_rest rest h (code.cut_some rest k))
 endings_same code Other Nothing rest h k = absurd (no_other code rest k h)
 endings_same code Other Other rest h k = refl
-endings_same code Other Cut rest h k = absurd (other_cut code rest h k)
-endings_same code Cut Nothing rest h k = absurd (some_rest rest k h.begun)
-endings_same code Cut Other rest h k = absurd (other_cut code rest k h)
+endings_same code Other Cut rest h k = absurd (code.other_cut rest h k)
+endings_same code Cut Nothing rest h k = absurd (some_rest rest k (code.cut_some rest h))
+endings_same code Cut Other rest h k = absurd (code.other_cut rest k h)
 endings_same code Cut Cut rest h k = refl
 
-all_same : {T : Type 0} {Fits : T → Type 0} {spelled : T → List ℕ} {IsOther : List ℕ → Type 0} (code : IsCode T Fits spelled IsOther) (xs ys : List T) (r t : List ℕ) (e f : Ending) → AllByRecursion Fits xs → AllByRecursion Fits ys → EndsSo T Fits spelled IsOther e r → EndsSo T Fits spelled IsOther f t → flat_map spelled xs ++ r ≡ flat_map spelled ys ++ t → (xs ≡ ys) × (r ≡ t)
+all_same : {T : Type 0} {Fits : T → Type 0} {encoded : T → List ℕ} {IsOther : List ℕ → Type 0} {IsCut : List ℕ → Type 0} (code : IsCode T Fits encoded IsOther IsCut) (xs ys : List T) (r t : List ℕ) (e f : Ending) → AllByRecursion Fits xs → AllByRecursion Fits ys → EndsSo IsOther IsCut e r → EndsSo IsOther IsCut f t → flat_map encoded xs ++ r ≡ flat_map encoded ys ++ t → (xs ≡ ys) × (r ≡ t)
 all_same code [] [] r t e f hx hy ex ey h = (refl, h)
-all_same {spelled} code [] (y ∷ ys) r t e f hx hy ex ey h = absurd (ends_none code e r y (flat_map spelled ys ++ t) ex hy.0 (h ∙ append_assoc (spelled y) (flat_map spelled ys) t))
-all_same {spelled} code (x ∷ xs) [] r t e f hx hy ex ey h = absurd (ends_none code f t x (flat_map spelled xs ++ r) ey hx.0 (sym h ∙ append_assoc (spelled x) (flat_map spelled xs) r))
-all_same {spelled} code (x ∷ xs) (y ∷ ys) r t e f hx hy ex ey h =
-    let one = code.same x y (flat_map spelled xs ++ r) (flat_map spelled ys ++ t) hx.0 hy.0 (sym (append_assoc (spelled x) (flat_map spelled xs) r) ∙ h ∙ append_assoc (spelled y) (flat_map spelled ys) t) in
+all_same {encoded} code [] (y ∷ ys) r t e f hx hy ex ey h = absurd (ends_none code e r y (flat_map encoded ys ++ t) ex hy.0 (h ∙ append_assoc (encoded y) (flat_map encoded ys) t))
+all_same {encoded} code (x ∷ xs) [] r t e f hx hy ex ey h = absurd (ends_none code f t x (flat_map encoded xs ++ r) ey hx.0 (sym h ∙ append_assoc (encoded x) (flat_map encoded xs) r))
+all_same {encoded} code (x ∷ xs) (y ∷ ys) r t e f hx hy ex ey h =
+    let one = code.same x y (flat_map encoded xs ++ r) (flat_map encoded ys ++ t) hx.0 hy.0 (sym (append_assoc (encoded x) (flat_map encoded xs) r) ∙ h ∙ append_assoc (encoded y) (flat_map encoded ys) t) in
     let others = all_same code xs ys r t e f hx.1 hy.1 ex ey one.1 in
     ((λ i. one.0 i ∷ others.0 i), others.1)
 
 -- the same octets are the same things, and end in the same way
-pub written_same : {T : Type 0} {Fits : T → Type 0} {spelled : T → List ℕ} {IsOther : List ℕ → Type 0} (code : IsCode T Fits spelled IsOther) (octets : List ℕ) (xs ys : List T) (e f : Ending) → AreWritten T Fits spelled IsOther octets xs e → AreWritten T Fits spelled IsOther octets ys f → (xs ≡ ys) × (e ≡ f)
-written_same {T} {Fits} {spelled} {IsOther} code octets xs ys e f h k =
+pub written_same : {T : Type 0} {Fits : T → Type 0} {encoded : T → List ℕ} {IsOther : List ℕ → Type 0} {IsCut : List ℕ → Type 0} (code : IsCode T Fits encoded IsOther IsCut) (octets : List ℕ) (xs ys : List T) (e f : Ending) → AreWritten T Fits encoded IsOther IsCut octets xs e → AreWritten T Fits encoded IsOther IsCut octets ys f → (xs ≡ ys) × (e ≡ f)
+written_same {T} {Fits} {encoded} {IsOther} {IsCut} code octets xs ys e f h k =
     let all = all_same code xs ys h.rest k.rest e f h.fit k.fit h.ends k.ends (sym h.whole ∙ k.whole) in
-    (all.0, endings_same code e f h.rest h.ends (subst (EndsSo T Fits spelled IsOther f) (sym all.1) k.ends))
+    (all.0, endings_same code e f h.rest h.ends (subst (EndsSo IsOther IsCut f) (sym all.1) k.ends))
 
 -- ---- each list of octets is read
 
@@ -76,68 +77,68 @@ bytes_of octets all i =
       | inr past ↦ omega (arith, get_or_past octets i 0 past)
     ]
 
-pub rest_bytes : (octets front rest : List ℕ) → IsBytes octets → octets ≡ front ++ rest → IsBytes rest
-rest_bytes octets front rest bytes e i =
-    let at : get_or rest i 0 ≡ get_or octets (length front + i) 0 = ap (λ t. get_or t i 0) (sym (drop_at front rest (length front) refl) ∙ ap (drop (length front)) (sym e)) ∙ get_or-drop (length front) octets i 0 in
-    omega (arith, at, bytes (length front + i))
+pub rest_bytes : (octets prefix rest : List ℕ) → IsBytes octets → octets ≡ prefix ++ rest → IsBytes rest
+rest_bytes octets prefix rest bytes e i =
+    let at : get_or rest i 0 ≡ get_or octets (length prefix + i) 0 = ap (λ t. get_or t i 0) (sym (drop_at prefix rest (length prefix) refl) ∙ ap (drop (length prefix)) (sym e)) ∙ get_or-drop (length prefix) octets i 0 in
+    omega (arith, at, bytes (length prefix + i))
 
 -- octets begin with one of them
-pub record BeginsOne (T : Type 0) (Fits : T → Type 0) (spelled : T → List ℕ) (octets : List ℕ) : Type 0 where
+pub record BeginsOne (T : Type 0) (Fits : T → Type 0) (encoded : T → List ℕ) (octets : List ℕ) : Type 0 where
   pub one : T
   pub next : List ℕ
   pub fits : Fits one
-  pub whole : octets ≡ spelled one ++ next
+  pub whole : octets ≡ encoded one ++ next
 
-abbrev pub Begins : (T : Type 0) → (T → Type 0) → (T → List ℕ) → (List ℕ → Type 0) → List ℕ → Type 0
-Begins T Fits spelled IsOther octets = BeginsOne T Fits spelled octets ⊎ (IsOther octets ⊎ IsCutShort T Fits spelled octets)
+abbrev pub Begins : (T : Type 0) → (T → Type 0) → (T → List ℕ) → (List ℕ → Type 0) → (List ℕ → Type 0) → List ℕ → Type 0
+Begins T Fits encoded IsOther IsCut octets = BeginsOne T Fits encoded octets ⊎ (IsOther octets ⊎ IsCut octets)
 
 -- what begins at each place
-pub record Decides (T : Type 0) (Fits : T → Type 0) (spelled : T → List ℕ) (IsOther : List ℕ → Type 0) : Type 0 where
-  pub some : (x : T) → 0 < length (spelled x)
-  pub begins : (octets : List ℕ) → IsBytes octets → 0 < length octets → Begins T Fits spelled IsOther octets
+pub record Decides (T : Type 0) (Fits : T → Type 0) (encoded : T → List ℕ) (IsOther : List ℕ → Type 0) (IsCut : List ℕ → Type 0) : Type 0 where
+  pub some : (x : T) → 0 < length (encoded x)
+  pub begins : (octets : List ℕ) → IsBytes octets → 0 < length octets → Begins T Fits encoded IsOther IsCut octets
 
-pub record WrittenSo (T : Type 0) (Fits : T → Type 0) (spelled : T → List ℕ) (IsOther : List ℕ → Type 0) (octets : List ℕ) : Type 0 where
+pub record WrittenSo (T : Type 0) (Fits : T → Type 0) (encoded : T → List ℕ) (IsOther : List ℕ → Type 0) (IsCut : List ℕ → Type 0) (octets : List ℕ) : Type 0 where
   pub things : List T
   pub ending : Ending
-  pub written : AreWritten T Fits spelled IsOther octets things ending
+  pub written : AreWritten T Fits encoded IsOther IsCut octets things ending
 
-written_none : (T : Type 0) (Fits : T → Type 0) (spelled : T → List ℕ) (IsOther : List ℕ → Type 0) (octets : List ℕ) (ending : Ending) → EndsSo T Fits spelled IsOther ending octets → WrittenSo T Fits spelled IsOther octets
-written_none T Fits spelled IsOther octets ending ends = record { things = []; ending = ending; written = record { fit = tt; rest = octets; whole = refl; ends = ends } }
+written_none : (T : Type 0) (Fits : T → Type 0) (encoded : T → List ℕ) (IsOther : List ℕ → Type 0) (IsCut : List ℕ → Type 0) (octets : List ℕ) (ending : Ending) → EndsSo IsOther IsCut ending octets → WrittenSo T Fits encoded IsOther IsCut octets
+written_none T Fits encoded IsOther IsCut octets ending ends = record { things = []; ending = ending; written = record { fit = tt; rest = octets; whole = refl; ends = ends } }
 
-pub written_more : (T : Type 0) (Fits : T → Type 0) (spelled : T → List ℕ) (IsOther : List ℕ → Type 0) (octets next : List ℕ) (x : T) (xs : List T) (ending : Ending) → Fits x → octets ≡ spelled x ++ next → AreWritten T Fits spelled IsOther next xs ending → AreWritten T Fits spelled IsOther octets (x ∷ xs) ending
-written_more T Fits spelled IsOther octets next x xs ending fits e h =
-    record { fit = (fits, h.fit); rest = h.rest; whole = e ∙ ap (λ t. spelled x ++ t) h.whole ∙ sym (append_assoc (spelled x) (flat_map spelled xs) h.rest); ends = h.ends }
+pub written_more : (T : Type 0) (Fits : T → Type 0) (encoded : T → List ℕ) (IsOther : List ℕ → Type 0) (IsCut : List ℕ → Type 0) (octets next : List ℕ) (x : T) (xs : List T) (ending : Ending) → Fits x → octets ≡ encoded x ++ next → AreWritten T Fits encoded IsOther IsCut next xs ending → AreWritten T Fits encoded IsOther IsCut octets (x ∷ xs) ending
+written_more T Fits encoded IsOther IsCut octets next x xs ending fits e h =
+    record { fit = (fits, h.fit); rest = h.rest; whole = e ∙ ap (λ t. encoded x ++ t) h.whole ∙ sym (append_assoc (encoded x) (flat_map encoded xs) h.rest); ends = h.ends }
 
-written_within : {T : Type 0} {Fits : T → Type 0} {spelled : T → List ℕ} {IsOther : List ℕ → Type 0} (decides : Decides T Fits spelled IsOther) (most : ℕ) (octets : List ℕ) → length octets ≤ most → IsBytes octets → WrittenSo T Fits spelled IsOther octets
-written_within {T} {Fits} {spelled} {IsOther} decides most [] short bytes = written_none T Fits spelled IsOther [] Nothing refl
+written_within : {T : Type 0} {Fits : T → Type 0} {encoded : T → List ℕ} {IsOther : List ℕ → Type 0} {IsCut : List ℕ → Type 0} (decides : Decides T Fits encoded IsOther IsCut) (most : ℕ) (octets : List ℕ) → length octets ≤ most → IsBytes octets → WrittenSo T Fits encoded IsOther IsCut octets
+written_within {T} {Fits} {encoded} {IsOther} {IsCut} decides most [] short bytes = written_none T Fits encoded IsOther IsCut [] Nothing refl
 written_within decides zero (b ∷ bs) short bytes = absurd (omega arith)
-written_within {T} {Fits} {spelled} {IsOther} decides (suc most) (b ∷ bs) short bytes =
+written_within {T} {Fits} {encoded} {IsOther} {IsCut} decides (suc most) (b ∷ bs) short bytes =
     elim (decides.begins (b ∷ bs) bytes (omega arith)) [
-      | inl one ↦ (let long : length (b ∷ bs) ≡ length (spelled one.one) + length one.next = ap length one.whole ∙ length-append (spelled one.one) one.next in
-          let others = written_within decides most one.next (omega (arith, long, short, decides.some one.one)) (rest_bytes (b ∷ bs) (spelled one.one) one.next bytes one.whole) in
-          record { things = one.one ∷ others.things; ending = others.ending; written = written_more T Fits spelled IsOther (b ∷ bs) one.next one.one others.things others.ending one.fits one.whole others.written })
-      | inr (inl o) ↦ written_none T Fits spelled IsOther (b ∷ bs) Other o
-      | inr (inr o) ↦ written_none T Fits spelled IsOther (b ∷ bs) Cut o
+      | inl one ↦ (let long : length (b ∷ bs) ≡ length (encoded one.one) + length one.next = ap length one.whole ∙ length-append (encoded one.one) one.next in
+          let others = written_within decides most one.next (omega (arith, long, short, decides.some one.one)) (rest_bytes (b ∷ bs) (encoded one.one) one.next bytes one.whole) in
+          record { things = one.one ∷ others.things; ending = others.ending; written = written_more T Fits encoded IsOther IsCut (b ∷ bs) one.next one.one others.things others.ending one.fits one.whole others.written })
+      | inr (inl o) ↦ written_none T Fits encoded IsOther IsCut (b ∷ bs) Other o
+      | inr (inr o) ↦ written_none T Fits encoded IsOther IsCut (b ∷ bs) Cut o
     ]
 
-pub some_written : {T : Type 0} {Fits : T → Type 0} {spelled : T → List ℕ} {IsOther : List ℕ → Type 0} (decides : Decides T Fits spelled IsOther) (octets : List ℕ) → IsBytes octets → WrittenSo T Fits spelled IsOther octets
+pub some_written : {T : Type 0} {Fits : T → Type 0} {encoded : T → List ℕ} {IsOther : List ℕ → Type 0} {IsCut : List ℕ → Type 0} (decides : Decides T Fits encoded IsOther IsCut) (octets : List ℕ) → IsBytes octets → WrittenSo T Fits encoded IsOther IsCut octets
 some_written decides octets bytes = written_within decides (length octets) octets (omega arith) bytes
 
 -- ---- reading goes on
 
--- the whole things in front of what is left
-pub record FrontOf (T : Type 0) (Fits : T → Type 0) (spelled : T → List ℕ) (octets : List ℕ) (things : List T) (rest : List ℕ) : Type 0 where
+-- the whole things before what is left
+pub record PrefixOf (T : Type 0) (Fits : T → Type 0) (encoded : T → List ℕ) (octets : List ℕ) (things : List T) (rest : List ℕ) : Type 0 where
   pub fit : AllByRecursion Fits things
-  pub whole : octets ≡ flat_map spelled things ++ rest
+  pub whole : octets ≡ flat_map encoded things ++ rest
 
 pub all_push : {T : Type 0} (Fits : T → Type 0) (xs : List T) (x : T) → AllByRecursion Fits xs → Fits x → AllByRecursion Fits (xs ++ x ∷ [])
 all_push Fits [] x h fits = (fits, tt)
 all_push Fits (y ∷ ys) x h fits = (h.0, all_push Fits ys x h.1 fits)
 
-pub front_push : {T : Type 0} {Fits : T → Type 0} {spelled : T → List ℕ} (octets rest next : List ℕ) (xs : List T) (x : T) → FrontOf T Fits spelled octets xs rest → Fits x → rest ≡ spelled x ++ next → FrontOf T Fits spelled octets (xs ++ x ∷ []) next
-front_push {T} {Fits} {spelled} octets rest next xs x h fits e =
+pub prefix_push : {T : Type 0} {Fits : T → Type 0} {encoded : T → List ℕ} (octets rest next : List ℕ) (xs : List T) (x : T) → PrefixOf T Fits encoded octets xs rest → Fits x → rest ≡ encoded x ++ next → PrefixOf T Fits encoded octets (xs ++ x ∷ []) next
+prefix_push {T} {Fits} {encoded} octets rest next xs x h fits e =
     record {
       fit = all_push Fits xs x h.fit fits;
-      whole = h.whole ∙ ap (λ t. flat_map spelled xs ++ t) e ∙ sym (append_assoc (flat_map spelled xs) (spelled x) next)
-          ∙ ap (λ t. t ++ next) (ap (λ t. flat_map spelled xs ++ t) (sym (append-nil (spelled x))) ∙ sym (flat_map-append spelled xs (x ∷ [])));
+      whole = h.whole ∙ ap (λ t. flat_map encoded xs ++ t) e ∙ sym (append_assoc (flat_map encoded xs) (encoded x) next)
+          ∙ ap (λ t. t ++ next) (ap (λ t. flat_map encoded xs ++ t) (sym (append-nil (encoded x))) ∙ sym (flat_map-append encoded xs (x ∷ [])));
     }

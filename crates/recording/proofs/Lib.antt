@@ -1,10 +1,14 @@
+pub mod BiasOctets
 pub mod BlockOctets
 pub mod BlockTimes
 pub mod Codes
-pub mod Fronts
+pub mod Contents
+pub mod ItemOctets
 pub mod Octets
 pub mod Played
 pub mod Playing
+pub mod Prefixes
 pub mod RawItems
 pub mod Readings
 pub mod SomeReading
+pub mod Zeros

@@ -1,6 +1,6 @@
 -- How far the raw form was read.
 use Rattle.std.proofs.Common.{◌≡◌, ◌∙◌, ap, sym, refl, subst, ℕ, ◌+◌, List, [], ◌∷◌, ◌++◌, length, drop, arith, append-nil, length-append}
-use Rattle.std.specs.Prelude.{◌≢◌, Bool, Option, Some, None}
+use Rattle.std.specs.Prelude.{Bool, Option, Some, None}
 use Rattle.std.specs.Option.{unwrap_or}
 use Rattle.std.specs.List.{AllByRecursion}
 use Rattle.std.proofs.lemmas.List.{map-append}
@@ -14,19 +14,19 @@ use Rattle.recording.specs.Blocks.{BlocksEnd}
 use Rattle.recording.specs.Endings.{fault_of}
 use Rattle.recording.specs.Items.{Item, datagram}
 use Rattle.recording.specs.Raw.{TimedBlock, blocks_of, start_at, start_of, tick_before, last_tick, ticks, items_from, last_from, closing}
-use Rattle.recording.specs.Readings.{mark, IsRaw}
+use Rattle.recording.specs.Readings.{HasHeader, IsRaw}
 use Rattle.recording.specs.Playing.{HasPlayed, IsPlayed, PlaysAll, closing_tick}
 use Rattle.recording.specs.Answers.{items_of}
 use Rattle.recording.specs.Times.{HasTimes}
 use Rattle.recording.proofs.Playing.{last_waits}
-use Rattle.recording.proofs.Codes.{FrontOf, front_push, all_push}
+use Rattle.recording.proofs.Codes.{PrefixOf, prefix_push, all_push}
 
 abbrev none : Clock
 none = record { start = 0; last = 0 }
 
 pub record HasProgress (octets : List ℕ) (from : ℕ) (p : Player) : Type 0 where
   pub blocks : List TimedBlock
-  pub front : FrontOf DataBlock IsDataBlock spelled octets (blocks_of blocks) (drop from octets)
+  pub prefix : PrefixOf DataBlock IsDataBlock spelled octets (blocks_of blocks) (drop from octets)
   pub timed : AllByRecursion HasTimes blocks
   pub place : from ≡ length (spelling (blocks_of blocks))
   pub played : HasPlayed blocks p
@@ -40,7 +40,7 @@ progress_more octets from next p p' b h fits times e to plays =
     let all : blocks_of (h.blocks ++ b ∷ []) ≡ blocks_of h.blocks ++ b.block ∷ [] = map-append (λ (b : TimedBlock). b.block) h.blocks (b ∷ []) in
     record {
       blocks = h.blocks ++ b ∷ [];
-      front = subst (λ t. FrontOf DataBlock IsDataBlock spelled octets t (drop next octets)) (sym all) (front_push octets (drop from octets) (drop next octets) (blocks_of h.blocks) b.block h.front fits e);
+      prefix = subst (λ t. PrefixOf DataBlock IsDataBlock spelled octets t (drop next octets)) (sym all) (prefix_push octets (drop from octets) (drop next octets) (blocks_of h.blocks) b.block h.prefix fits e);
       timed = all_push HasTimes h.blocks b h.timed times;
       place = omega (arith, to, h.place, length-append (spelling (blocks_of h.blocks)) (spelled b.block), ap length (spelling_push (blocks_of h.blocks) b.block)) ∙ sym (ap (λ t. length (spelling t)) all);
       played = plays h.blocks h.played;
@@ -51,7 +51,7 @@ pub plays_all : (octets : List ℕ) (from : ℕ) (p : Player) (ending : Ending) 
 plays_all octets from p ending h ends =
     record {
       blocks = h.blocks;
-      blocks_are = record { fit = h.front.fit; rest = drop from octets; whole = h.front.whole; ends = ends };
+      blocks_are = record { fit = h.prefix.fit; rest = drop from octets; whole = h.prefix.whole; ends = ends };
       timed = h.timed;
       place_is = h.place;
       played = h.played;
@@ -78,12 +78,12 @@ closing_same (b ∷ bs) [] fault e = absurd (some_items (start_of (b ∷ bs)) b 
 closing_same (b ∷ bs) (item ∷ items) None e = refl
 closing_same (b ∷ bs) (item ∷ items) (Some place) e = refl
 
-pub raw_read : (octets : List ℕ) (goes_on : Bool) (p : Player) (ending : Ending) (place : ℕ) (fault : Option ℕ) (k : Clock) (items : List Item) → ((rest : List ℕ) → octets ≢ mark ++ rest) → PlaysAll octets p ending place → fault ≡ fault_of ending goes_on place (length octets) → k ≡ unwrap_or p.clock none → items ≡ items_of p.items.items ++ ticks (closing_tick p.items.items k.last fault) → IsRaw octets goes_on k.start items fault
-raw_read octets goes_on p ending place fault k items unmarked h fault_is k_is items_are =
+pub raw_read : (octets : List ℕ) (goes_on : Bool) (p : Player) (ending : Ending) (place : ℕ) (fault : Option ℕ) (k : Clock) (items : List Item) → HasHeader None octets → PlaysAll octets p ending place → fault ≡ fault_of ending goes_on place (length octets) → k ≡ unwrap_or p.clock none → items ≡ items_of p.items.items ++ ticks (closing_tick p.items.items k.last fault) → IsRaw octets goes_on k.start items fault
+raw_read octets goes_on p ending place fault k items other h fault_is k_is items_are =
     let at = played_at h.blocks p.clock (items_of p.items.items) h.played in
     let last : k.last ≡ last_from (start_of h.blocks) h.blocks = ap (λ k. k.last) k_is ∙ at.2 in
     record {
-      unmarked = unmarked;
+      other_beginning = other;
       blocks = h.blocks;
       ending = ending;
       blocks_are = h.blocks_are;

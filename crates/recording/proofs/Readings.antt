@@ -1,6 +1,6 @@
 -- Octets have one reading.
 use Rattle.std.proofs.Common.{◌≡◌, ◌∙◌, ap, sym, refl, subst, inl, inr, length-append, ℕ, ◌≢◌, List, [], ◌∷◌, ◌++◌, length, arith}
-use Rattle.std.specs.Prelude.{Bool, Option}
+use Rattle.std.specs.Prelude.{Bool, Option, Some, None}
 use Rattle.std.specs.List.{AllByRecursion}
 use Rattle.asterix_frame.specs.declared.tables.Uap.{Uap}
 use Rattle.asterix_frame.specs.Blocks.{DataBlock, spelling}
@@ -10,28 +10,37 @@ use Rattle.asterix_frame.specs.Bodies.{BodyFault, body_of, times_of}
 use Rattle.asterix_frame.specs.Datagrams.{Content, IsContent, IsRead, block_of, times_of_content}
 use Rattle.asterix_frame.specs.Datagrams as datagrams
 use Rattle.asterix_frame.proofs.Bodies.{one_list, not_both}
+use Rattle.recording.specs.declared.header.Header.{Header}
 use Rattle.recording.specs.Endings.{fault_of}
 use Rattle.recording.specs.Items.{Item, AreItems}
 use Rattle.recording.specs.Raw.{TimedBlock, blocks_of, start_of, raw_items}
 use Rattle.recording.specs.Times.{HasTimes, IsMalformed, whole, malformed}
-use Rattle.recording.specs.Readings.{mark, header, recording, IsRecording, HasNoStart, IsRaw, Reads}
+use Rattle.recording.specs.Readings.{HasHeader, header_octets, recording, IsRecording, HasNoStart, IsRaw, HasContents}
 use Rattle.recording.proofs.Codes.{written_same}
-use Rattle.recording.proofs.Octets.{items_code, headers_same}
+use Rattle.recording.proofs.ItemOctets.{items_code, headers_same, magics_same}
 use Rattle.recording.proofs.BlockOctets.{blocks_code}
 
 abbrev pub Same : ℕ → ℕ → List Item → List Item → Option ℕ → Option ℕ → Type 0
 Same s t xs ys f g = (s ≡ t) × (xs ≡ ys) × (f ≡ g)
 
+abbrev pub SameContents : Option Header → Option Header → ℕ → ℕ → List Item → List Item → Option ℕ → Option ℕ → Type 0
+SameContents g h s t xs ys f k = (g ≡ h) × (s ≡ t) × (xs ≡ ys) × (f ≡ k)
+
 -- ---- the recording form
 
-recordings_same : (octets : List ℕ) (goes_on : Bool) (s t : ℕ) (xs ys : List Item) (f g : Option ℕ) → IsRecording octets goes_on s xs f → IsRecording octets goes_on t ys g → Same s t xs ys f g
-recordings_same octets goes_on s t xs ys f g h k =
-    let starts = headers_same s t h.behind k.behind h.start_fits k.start_fits (sym h.whole ∙ k.whole) in
-    let things = written_same items_code h.behind xs ys h.ending k.ending h.items_are (subst (λ b. AreItems b ys k.ending) (sym starts.1) k.items_are) in
-    (starts.0, things.0, h.fault_is ∙ (λ i. fault_of (things.1 i) goes_on (length (recording (starts.0 i) (things.0 i))) (length octets)) ∙ sym k.fault_is)
+recordings_same : (octets : List ℕ) (goes_on : Bool) (g h : Header) (s t : ℕ) (xs ys : List Item) (f k : Option ℕ) → IsRecording octets goes_on g s xs f → IsRecording octets goes_on h t ys k → SameContents (Some g) (Some h) s t xs ys f k
+recordings_same octets goes_on g h s t xs ys f k a b =
+    let starts = headers_same g h s t a.after b.after a.start_fits b.start_fits (sym a.whole ∙ b.whole) in
+    let moved : AreItems g a.after ys b.ending = subst (λ z. AreItems z a.after ys b.ending) (sym starts.0) (subst (λ z. AreItems h z ys b.ending) (sym starts.2) b.items_are) in
+    let things = written_same (items_code g) a.after xs ys a.ending b.ending a.items_are moved in
+    (ap Some starts.0, starts.1, things.0, a.fault_is ∙ (λ i. fault_of (things.1 i) goes_on (length (recording (starts.0 i) (starts.1 i) (things.0 i))) (length octets)) ∙ sym b.fault_is)
 
-start_cut : (octets : List ℕ) (goes_on : Bool) (s t : ℕ) (xs ys : List Item) (f g : Option ℕ) → IsRecording octets goes_on s xs f → HasNoStart octets t ys g → ⊥
-start_cut octets goes_on s t xs ys f g h k = omega (arith, ap length h.whole, length-append (header s) h.behind, ap length k.whole, k.short)
+start_cut : (octets : List ℕ) (goes_on : Bool) (g h : Header) (s t : ℕ) (xs ys : List Item) (f k : Option ℕ) → IsRecording octets goes_on g s xs f → HasNoStart octets h t ys k → ⊥
+start_cut octets goes_on g h s t xs ys f k a b = omega (arith, ap length a.whole, length-append (header_octets g s) a.after, ap length b.whole, b.short)
+
+no_starts_same : (octets : List ℕ) (g h : Header) (s t : ℕ) (xs ys : List Item) (f k : Option ℕ) → HasNoStart octets g s xs f → HasNoStart octets h t ys k → SameContents (Some g) (Some h) s t xs ys f k
+no_starts_same octets g h s t xs ys f k a b =
+    (ap Some (magics_same g h a.few b.few (sym a.whole ∙ b.whole)).0, a.start_is ∙ sym b.start_is, a.items_are ∙ sym b.items_are, a.fault_is ∙ sym b.fault_is)
 
 -- ---- the raw form
 
@@ -89,16 +98,27 @@ raws_same octets goes_on s t xs ys f g h k =
 
 -- ---- both
 
-marked : (octets : List ℕ) (start : ℕ) (behind : List ℕ) → ((rest : List ℕ) → octets ≢ mark ++ rest) → octets ≡ header start ++ behind → ⊥
-marked octets start behind none e = none _ e
+-- a recording begins with its magic
+begins_so : (octets : List ℕ) (goes_on : Bool) (h : Header) (s : ℕ) (xs : List Item) (f : Option ℕ) → HasContents octets goes_on (Some h) s xs f → HasHeader (Some h) octets
+begins_so octets goes_on h s xs f (inl a) = (_, a.whole)
+begins_so octets goes_on h s xs f (inr a) = (a.few, a.whole)
 
-pub one_reading : (octets : List ℕ) (goes_on : Bool) (s t : ℕ) (xs ys : List Item) (f g : Option ℕ) → Reads octets goes_on s xs f → Reads octets goes_on t ys g → Same s t xs ys f g
-one_reading octets goes_on s t xs ys f g (inl h) (inl k) = recordings_same octets goes_on s t xs ys f g h k
-one_reading octets goes_on s t xs ys f g (inl h) (inr (inl k)) = absurd (start_cut octets goes_on s t xs ys f g h k)
-one_reading octets goes_on s t xs ys f g (inl h) (inr (inr k)) = absurd (marked octets s h.behind k.unmarked h.whole)
-one_reading octets goes_on s t xs ys f g (inr (inl h)) (inl k) = absurd (start_cut octets goes_on t s ys xs g f k h)
-one_reading octets goes_on s t xs ys f g (inr (inl h)) (inr (inl k)) = (h.start_is ∙ sym k.start_is, h.items_are ∙ sym k.items_are, h.fault_is ∙ sym k.fault_is)
-one_reading octets goes_on s t xs ys f g (inr (inl h)) (inr (inr k)) = absurd (k.unmarked h.few h.whole)
-one_reading octets goes_on s t xs ys f g (inr (inr h)) (inl k) = absurd (marked octets t k.behind h.unmarked k.whole)
-one_reading octets goes_on s t xs ys f g (inr (inr h)) (inr (inl k)) = absurd (h.unmarked k.few k.whole)
-one_reading octets goes_on s t xs ys f g (inr (inr h)) (inr (inr k)) = raws_same octets goes_on s t xs ys f g h k
+pub header_is : (octets : List ℕ) (goes_on : Bool) (h : Option Header) (s : ℕ) (xs : List Item) (f : Option ℕ) → HasContents octets goes_on h s xs f → HasHeader h octets
+header_is octets goes_on (Some h) s xs f a = begins_so octets goes_on h s xs f a
+header_is octets goes_on None s xs f a = a.other_beginning
+
+not_both_forms : (octets : List ℕ) (goes_on : Bool) (h : Header) (s t : ℕ) (xs ys : List Item) (f k : Option ℕ) → HasContents octets goes_on (Some h) s xs f → IsRaw octets goes_on t ys k → ⊥
+not_both_forms octets goes_on h s t xs ys f k a b =
+    let begun = begins_so octets goes_on h s xs f a in
+    b.other_beginning h begun.0 begun.1
+
+pub one_recording : (octets : List ℕ) (goes_on : Bool) (g h : Option Header) (s t : ℕ) (xs ys : List Item) (f k : Option ℕ) → HasContents octets goes_on g s xs f → HasContents octets goes_on h t ys k → SameContents g h s t xs ys f k
+one_recording octets goes_on (Some g) (Some h) s t xs ys f k (inl a) (inl b) = recordings_same octets goes_on g h s t xs ys f k a b
+one_recording octets goes_on (Some g) (Some h) s t xs ys f k (inl a) (inr b) = absurd (start_cut octets goes_on g h s t xs ys f k a b)
+one_recording octets goes_on (Some g) (Some h) s t xs ys f k (inr a) (inl b) = absurd (start_cut octets goes_on h g t s ys xs k f b a)
+one_recording octets goes_on (Some g) (Some h) s t xs ys f k (inr a) (inr b) = no_starts_same octets g h s t xs ys f k a b
+one_recording octets goes_on (Some g) None s t xs ys f k a b = absurd (not_both_forms octets goes_on g s t xs ys f k a b)
+one_recording octets goes_on None (Some h) s t xs ys f k a b = absurd (not_both_forms octets goes_on h t s ys xs k f b a)
+one_recording octets goes_on None None s t xs ys f k a b =
+    let one = raws_same octets goes_on s t xs ys f k a b in
+    (refl, one.0, one.1, one.2)

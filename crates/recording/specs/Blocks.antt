@@ -2,20 +2,20 @@
 use Rattle.std.specs.Prelude.{◌<◌, ℕ, ◌+◌, ◌*◌, List, ◌∷◌}
 use Rattle.asterix_frame.specs.Blocks.{DataBlock, IsDataBlock, spelled}
 use Rattle.recording.specs.declared.ending.Ending.{Ending}
-use Rattle.recording.specs.Endings.{IsCutShort, EndsSo, AreWritten}
+use Rattle.recording.specs.Endings.{IsTruncated, EndsSo, AreWritten}
 
 -- A head whose length counts less than the head itself begins no block.
 abbrev pub IsNoBlock : List ℕ → Type 0
 IsNoBlock (category ∷ high ∷ low ∷ rest) = 256 * high + low < 3
 IsNoBlock octets = ⊥
 
--- a front of a block, and not all of it: a head that isn't whole, or a length that reaches past the end
-abbrev pub IsCutBlock : List ℕ → Type 0
-IsCutBlock = IsCutShort DataBlock IsDataBlock spelled
+-- a prefix of a block, and not all of it: a head that isn't whole, or a length that reaches past the end
+abbrev pub IsTruncatedBlock : List ℕ → Type 0
+IsTruncatedBlock = IsTruncated DataBlock IsDataBlock spelled
 
 abbrev pub BlocksEnd : Ending → List ℕ → Type 0
-BlocksEnd = EndsSo DataBlock IsDataBlock spelled IsNoBlock
+BlocksEnd = EndsSo IsNoBlock IsTruncatedBlock
 
 -- the octets are these blocks, and then what ends them so
 abbrev pub AreBlocks : List ℕ → List DataBlock → Ending → Type 0
-AreBlocks = AreWritten DataBlock IsDataBlock spelled IsNoBlock
+AreBlocks = AreWritten DataBlock IsDataBlock spelled IsNoBlock IsTruncatedBlock

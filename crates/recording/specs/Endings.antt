@@ -1,36 +1,36 @@
--- Things that are written one after the other: what stands behind them, where no more of them begins.
--- `Fits` says what can be written, `spelled` its octets, and `IsOther` which octets begin none of them, however they go on.
+-- Things that are written one after the other: what follows them, where no more of them begins.
+-- `Fits` says what can be written, `encoded` its octets, `IsOther` which octets begin none of them, however they go on, and `IsCut` which octets end before one that they begin does.
 use Rattle.std.specs.Prelude.{◌≡◌, ◌<◌, ℕ, Bool, true, false, List, [], ◌++◌, length, Option, Some, None}
 use Rattle.std.specs.List.{flat_map, AllByRecursion}
 use Rattle.recording.specs.declared.ending.Ending.{Ending}
 use Rattle.recording.specs.declared.ending.Ending.TheVariants.{Nothing, Other, Cut}
 
--- The octets are a front of one of them, and not all of it: cut short.
-pub record IsCutShort (T : Type 0) (Fits : T → Type 0) (spelled : T → List ℕ) (rest : List ℕ) : Type 0 where
+-- The octets are a prefix of one of them, and not all of it.
+pub record IsTruncated (T : Type 0) (Fits : T → Type 0) (encoded : T → List ℕ) (rest : List ℕ) : Type 0 where
   pub one : T
   pub fits : Fits one
   pub more : List ℕ
   pub begun : 0 < length rest
   pub missing : 0 < length more
-  pub whole : spelled one ≡ rest ++ more
+  pub whole : encoded one ≡ rest ++ more
 
--- What stands there: nothing, octets that begin none, or one that is cut short.
-abbrev pub EndsSo : (T : Type 0) → (T → Type 0) → (T → List ℕ) → (List ℕ → Type 0) → Ending → List ℕ → Type 0
-EndsSo T Fits spelled IsOther Nothing rest = rest ≡ []
-EndsSo T Fits spelled IsOther Other rest = IsOther rest
-EndsSo T Fits spelled IsOther Cut rest = IsCutShort T Fits spelled rest
+-- What stands there: nothing, octets that begin none, or one that is truncated.
+abbrev pub EndsSo : (List ℕ → Type 0) → (List ℕ → Type 0) → Ending → List ℕ → Type 0
+EndsSo IsOther IsCut Nothing rest = rest ≡ []
+EndsSo IsOther IsCut Other rest = IsOther rest
+EndsSo IsOther IsCut Cut rest = IsCut rest
 
--- The octets are these things, and behind them what ends them so.
-pub record AreWritten (T : Type 0) (Fits : T → Type 0) (spelled : T → List ℕ) (IsOther : List ℕ → Type 0) (octets : List ℕ) (things : List T) (ending : Ending) : Type 0 where
+-- The octets are these things, and after them what ends them so.
+pub record AreWritten (T : Type 0) (Fits : T → Type 0) (encoded : T → List ℕ) (IsOther : List ℕ → Type 0) (IsCut : List ℕ → Type 0) (octets : List ℕ) (things : List T) (ending : Ending) : Type 0 where
   pub fit : AllByRecursion Fits things
   pub rest : List ℕ
-  pub whole : octets ≡ flat_map spelled things ++ rest
-  pub ends : EndsSo T Fits spelled IsOther ending rest
+  pub whole : octets ≡ flat_map encoded things ++ rest
+  pub ends : EndsSo IsOther IsCut ending rest
 
--- The offset of the fault, where the ending stands at this place. Of octets that go on it is known where they begin none; what is cut short there may be whole, and their end is told.
+-- The offset of the fault, where the ending stands at this offset. Of octets that go on it is known where they begin none; what is truncated there may be whole, and their end is told.
 abbrev pub fault_of : Ending → Bool → ℕ → ℕ → Option ℕ
-fault_of Other goes_on place end = Some place
-fault_of Nothing false place end = None
-fault_of Nothing true place end = Some end
-fault_of Cut false place end = Some place
-fault_of Cut true place end = Some end
+fault_of Other goes_on offset end = Some offset
+fault_of Nothing false offset end = None
+fault_of Nothing true offset end = Some end
+fault_of Cut false offset end = Some offset
+fault_of Cut true offset end = Some end

@@ -1,4 +1,5 @@
 pub mod Answers
+pub mod Biases
 pub mod Blocks
 pub mod Endings
 pub mod Items

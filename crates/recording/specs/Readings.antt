@@ -1,47 +1,60 @@
--- What is read of octets: a start, items, and the offset of the first fault.
-use Rattle.std.specs.Prelude.{◌≡◌, ◌≢◌, ◌<◌, ◌^◌, ◌⊎◌, ℕ, Bool, true, false, List, [], ◌∷◌, ◌++◌, length, Option, Some}
+-- What is read of octets: the header, a start, items, and the offset of the first fault.
+use Rattle.std.specs.Prelude.{◌≡◌, ◌≢◌, ◌<◌, ◌^◌, ◌⊎◌, ℕ, Bool, true, false, List, [], ◌∷◌, ◌++◌, length, Option, Some, None}
 use Rattle.std.specs.List.{flat_map, AllByRecursion}
 use Rattle.asterix_frame.specs.Blocks.{spelling}
 use Rattle.recording.specs.declared.ending.Ending.{Ending}
+use Rattle.recording.specs.declared.header.Header.{Header}
+use Rattle.recording.specs.declared.header.Header.TheVariants.{First, Second}
 use Rattle.recording.specs.Endings.{fault_of}
-use Rattle.recording.specs.Items.{Item, big_endian, spelled, AreItems}
+use Rattle.recording.specs.Biases.{big_endian}
+use Rattle.recording.specs.Items.{Item, item_octets, AreItems}
 use Rattle.recording.specs.Blocks.{AreBlocks}
 use Rattle.recording.specs.Raw.{TimedBlock, blocks_of, start_of, raw_items}
 use Rattle.recording.specs.Times.{HasTimes}
 
--- `MRT1` in ASCII, which a recording begins with
-abbrev pub mark : List ℕ
-mark = 77 ∷ 82 ∷ 84 ∷ 49 ∷ []
+-- the last octet of the magic: `1` or `2` in ASCII
+abbrev pub version : Header → ℕ
+version First = 49
+version Second = 50
 
--- what stands before the items: the mark, and the start in five octets
-abbrev pub header : ℕ → List ℕ
-header start = mark ++ big_endian 5 start
+-- `MRT1` or `MRT2` in ASCII, which a recording begins with
+abbrev pub magic : Header → List ℕ
+magic header = 77 ∷ 82 ∷ 84 ∷ version header ∷ []
+
+-- which magic the octets begin with, or that they begin with neither
+abbrev pub HasHeader : Option Header → List ℕ → Type 0
+HasHeader (Some header) octets = (rest : List ℕ) × (octets ≡ magic header ++ rest)
+HasHeader None octets = (header : Header) (rest : List ℕ) → octets ≢ magic header ++ rest
+
+-- what stands before the items: the magic, and the start in five octets
+abbrev pub header_octets : Header → ℕ → List ℕ
+header_octets header start = magic header ++ big_endian 5 start
 
 -- the octets of a recording
-abbrev pub recording : ℕ → List Item → List ℕ
-recording start items = header start ++ flat_map spelled items
+abbrev pub recording : Header → ℕ → List Item → List ℕ
+recording header start items = header_octets header start ++ flat_map item_octets items
 
 -- The octets are a header and items, and then what ends them.
-pub record IsRecording (octets : List ℕ) (goes_on : Bool) (start : ℕ) (items : List Item) (fault : Option ℕ) : Type 0 where
+pub record IsRecording (octets : List ℕ) (goes_on : Bool) (header : Header) (start : ℕ) (items : List Item) (fault : Option ℕ) : Type 0 where
   pub start_fits : start < 2 ^ 40
-  pub behind : List ℕ
-  pub whole : octets ≡ header start ++ behind
+  pub after : List ℕ
+  pub whole : octets ≡ header_octets header start ++ after
   pub ending : Ending
-  pub items_are : AreItems behind items ending
-  pub fault_is : fault ≡ fault_of ending goes_on (length (recording start items)) (length octets)
+  pub items_are : AreItems header after items ending
+  pub fault_is : fault ≡ fault_of ending goes_on (length (recording header start items)) (length octets)
 
--- The header is cut short: a fault behind the mark, with the start 0.
-pub record HasNoStart (octets : List ℕ) (start : ℕ) (items : List Item) (fault : Option ℕ) : Type 0 where
+-- The header is truncated: a fault after the magic, with the start 0.
+pub record HasNoStart (octets : List ℕ) (header : Header) (start : ℕ) (items : List Item) (fault : Option ℕ) : Type 0 where
   pub few : List ℕ
   pub short : length few < 5
-  pub whole : octets ≡ mark ++ few
+  pub whole : octets ≡ magic header ++ few
   pub start_is : start ≡ 0
   pub items_are : items ≡ []
   pub fault_is : fault ≡ Some 4
 
--- The octets don't begin with the mark. They are blocks with their times, and then what ends them.
+-- The octets begin with neither magic. They are blocks with their times, and then what ends them.
 pub record IsRaw (octets : List ℕ) (goes_on : Bool) (start : ℕ) (items : List Item) (fault : Option ℕ) : Type 0 where
-  pub unmarked : (rest : List ℕ) → octets ≢ mark ++ rest
+  pub other_beginning : HasHeader None octets
   pub blocks : List TimedBlock
   pub ending : Ending
   pub blocks_are : AreBlocks octets (blocks_of blocks) ending
@@ -50,19 +63,21 @@ pub record IsRaw (octets : List ℕ) (goes_on : Bool) (start : ℕ) (items : Lis
   pub fault_is : fault ≡ fault_of ending goes_on (length (spelling (blocks_of blocks))) (length octets)
   pub items_are : items ≡ raw_items blocks fault
 
-abbrev pub Reads : List ℕ → Bool → ℕ → List Item → Option ℕ → Type 0
-Reads octets goes_on start items fault = IsRecording octets goes_on start items fault ⊎ (HasNoStart octets start items fault ⊎ IsRaw octets goes_on start items fault)
+abbrev pub HasContents : List ℕ → Bool → Option Header → ℕ → List Item → Option ℕ → Type 0
+HasContents octets goes_on (Some header) start items fault = IsRecording octets goes_on header start items fault ⊎ HasNoStart octets header start items fault
+HasContents octets goes_on None start items fault = IsRaw octets goes_on start items fault
 
 pub record HasReading (octets : List ℕ) (goes_on : Bool) : Type 0 where
+  pub header : Option Header
   pub start : ℕ
   pub items : List Item
   pub fault : Option ℕ
-  pub reading : Reads octets goes_on start items fault
+  pub contents : HasContents octets goes_on header start items fault
 
 -- an input
-abbrev pub IsReading : List ℕ → ℕ → List Item → Option ℕ → Type 0
-IsReading octets = Reads octets false
+abbrev pub IsReading : List ℕ → Option Header → ℕ → List Item → Option ℕ → Type 0
+IsReading octets = HasContents octets false
 
--- a front of an input, which goes on behind it
-abbrev pub IsReadingOfFront : List ℕ → ℕ → List Item → Option ℕ → Type 0
-IsReadingOfFront octets = Reads octets true
+-- a prefix of an input, which goes on after it
+abbrev pub IsReadingOfPrefix : List ℕ → Option Header → ℕ → List Item → Option ℕ → Type 0
+IsReadingOfPrefix octets = HasContents octets true

@@ -1,12 +1,12 @@
 // The raw form: data blocks alone.
-ghost use Rattle.std.specs.Prelude.{◌≡◌, ◌≢◌, ◌<◌, ◌≤◌, ◌^◌, ◌+◌, ◌∷◌, [], ◌++◌, ℕ, List, All, Some, None, IfOk, IfSome, OnOk};
+ghost use Rattle.std.specs.Prelude.{◌≡◌, ◌<◌, ◌≤◌, ◌^◌, ◌+◌, ◌∷◌, [], ◌++◌, ℕ, List, All, None, IfOk, IfSome, OnOk};
 ghost use Rattle.std.specs.List.{AllByRecursion};
 ghost use Rattle.trk_base.specs.Numbers.{day};
 ghost use Rattle.asterix_frame.specs.Blocks.{BeginsNone, spelled};
 ghost use Rattle.recording.specs.Blocks.{BlocksEnd};
 ghost use Rattle.recording.specs.Raw.{TimedBlock, latest, tick_at, tick_before, ticks};
 ghost use Rattle.recording.specs.Playing.{InRange, HasPlayed, PlaysAll, clock_behind, clock_with, closing_tick, tick_of};
-ghost use Rattle.recording.specs.Readings.{IsRaw, mark};
+ghost use Rattle.recording.specs.Readings.{HasContents, HasHeader};
 ghost use Rattle.recording.specs.Answers.{items_of};
 ghost use Rattle.recording.specs.Times.{HasTimes};
 
@@ -205,8 +205,9 @@ fn play(alloc: Global, bytes: &[u8]) -> Result<Played<'_>, NoMemory>
 
 /// Reads octets of the raw form.
 pub(crate) fn read_raw(alloc: Global, bytes: &[u8], goes_on: bool) -> Result<Reading<'_>, NoMemory>
-    requires unmarked { (rest : List ℕ) → bytes.now ≢ mark ++ rest }
-    ensures reads { IfOk result (λ r. IsRaw bytes.now goes_on r.start (items_of r.items.items) r.fault) }
+    requires other_beginning { HasHeader None bytes.now }
+    ensures reads { IfOk result (λ r. HasContents bytes.now goes_on r.header r.start (items_of r.items.items) r.fault) }
+    ensures header { IfOk result (λ r. HasHeader r.header bytes.now) }
     ensures start_fits { IfOk result (λ r. r.start < 2 ^ 40) }
 {
     let Played {
@@ -219,6 +220,7 @@ pub(crate) fn read_raw(alloc: Global, bytes: &[u8], goes_on: bool) -> Result<Rea
     let tick = closing_tick(&items, last, fault);
     push_tick(&mut items, tick)?;
     Ok(Reading {
+        header: None,
         start,
         items,
         fault,

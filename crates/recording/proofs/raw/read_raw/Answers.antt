@@ -11,5 +11,5 @@ returns-clause-reads c =
     let k = c.unwrap_or-start.result in
     let fault = c.fault-fault.result in
     let tick : c.closing_tick-tick.result ≡ closing_tick p.items.items k.last fault = c.closing_tick-tick.ensures ∙ ap (λ t. closing_tick t k.last fault) c.deref.ensures.value in
-    raw_read c.args.bytes.now c.args.goes_on p c.in_ok-clock.field-0.ending c.in_ok-clock.field-0.place fault k (items_of c.push_tick.new.items.items) c.requires.unmarked c.in_ok-clock.ensures.all c.fault-fault.ensures c.unwrap_or-start.ensures
+    raw_read c.args.bytes.now c.args.goes_on p c.in_ok-clock.field-0.ending c.in_ok-clock.field-0.place fault k (items_of c.push_tick.new.items.items) c.requires.other_beginning c.in_ok-clock.ensures.all c.fault-fault.ensures c.unwrap_or-start.ensures
     (c.in_ok-push_tick.ensures ∙ ap (λ t. items_of p.items.items ++ ticks t) tick)

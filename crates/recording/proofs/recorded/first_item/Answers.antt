@@ -1,18 +1,34 @@
-use Rattle.std.proofs.Common.{rules, ◌≡◌, get_or, arith, length-drop}
+use Rattle.std.proofs.Common.{arith, rules, sym, subst, ◌≡◌, ◌∙◌, ◌∷◌, drop}
 use Rattle.std.proofs.lemmas.List.{take_rest}
-use Rattle.recording.proofs.Octets.{tick_cut_at, datagram_cut_at}
+use Rattle.std.proofs.lemmas.Result.{IfOk-weaker, IfErr-weaker}
+use Rattle.recording.specs.Items.{ItemsEnd}
+use Rattle.recording.proofs.Contents.{first_octet, begins_with}
 use Rattle.recording.proofs.recorded.first_item.Goals as goal
 
-pub returns-in-None-clause-none : goal.returns-in-None-clause-none
-returns-in-None-clause-none c =
+pub returns-in_default-eq1-clause-found : goal.returns-in_default-eq1-clause-found
+returns-in_default-eq1-clause-found c =
     let octets = c.args.octets.now in
-    let first : get_or octets 0 0 ≡ 1 = search rules in
-    let short = rw (take_rest octets 1) at c.in-None.ensures.none in
-    tick_cut_at octets (λ i. omega (arith, c.type_inv.octets i)) c.requires first (omega (arith, short, length-drop 1 octets))
+    let first : first_octet octets ≡ 1 = search rules in
+    let whole = begins_with octets 1 c.requires first in
+    IfOk-weaker c.first_tick.result _ _ (λ x h. (h.0 c.args.header, whole ∙ h.1)) (rw (take_rest octets 1) at c.first_tick.ensures.found)
 
-pub returns-in-None-first_datagram-clause-none : goal.returns-in-None-first_datagram-clause-none
-returns-in-None-first_datagram-clause-none c =
+pub returns-in_default-eq1-clause-none : goal.returns-in_default-eq1-clause-none
+returns-in_default-eq1-clause-none c =
     let octets = c.args.octets.now in
-    let first : get_or octets 0 0 ≡ 2 = search rules in
-    let short = rw (take_rest octets 1) at c.in-None-first_datagram.ensures.none in
-    datagram_cut_at octets (λ i. omega (arith, c.type_inv.octets i)) c.requires first short
+    let first : first_octet octets ≡ 1 = search rules in
+    let whole = begins_with octets 1 c.requires first in
+    IfErr-weaker c.first_tick.result _ _ (λ ending h. subst (ItemsEnd c.args.header ending) (sym whole) (h c.args.header)) (rw (take_rest octets 1) at c.first_tick.ensures.none)
+
+pub returns-in_default-eq2-clause-found : goal.returns-in_default-eq2-clause-found
+returns-in_default-eq2-clause-found c =
+    let octets = c.args.octets.now in
+    let first : first_octet octets ≡ 2 = search rules in
+    let whole = begins_with octets 2 c.requires first in
+    IfOk-weaker c.first_datagram.result _ _ (λ x h. (h.0 c.args.header, whole ∙ h.1)) (rw (take_rest octets 1) at c.first_datagram.ensures.found)
+
+pub returns-in_default-eq2-clause-none : goal.returns-in_default-eq2-clause-none
+returns-in_default-eq2-clause-none c =
+    let octets = c.args.octets.now in
+    let first : first_octet octets ≡ 2 = search rules in
+    let whole = begins_with octets 2 c.requires first in
+    IfErr-weaker c.first_datagram.result _ _ (λ ending h. subst (ItemsEnd c.args.header ending) (sym whole) (h c.args.header)) (rw (take_rest octets 1) at c.first_datagram.ensures.none)
