@@ -8,6 +8,8 @@ pub mod Sound
 pub mod Rising
 pub mod Entering
 pub mod Changing
+pub mod Greatest
+pub mod Holding
 pub mod Prefixes
 pub mod Arrivals
 pub mod Taken
