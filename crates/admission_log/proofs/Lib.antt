@@ -14,3 +14,4 @@ pub mod Prefixes
 pub mod Arrivals
 pub mod Taken
 pub mod Keys
+pub mod OwnKeys

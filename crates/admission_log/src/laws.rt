@@ -17,7 +17,7 @@ ghost use Rattle.admission_log.specs.Legality.{IsLegal, WasOpen};
 ghost use Rattle.plot_geometry.specs.declared.biases.Bias.{Bias};
 ghost use Rattle.admission_log.specs.declared.entries.Entry.{Entry};
 ghost use Rattle.admission_log.specs.contracts.entries.EntryOrd.TheImpl.{ghosts};
-ghost use Rattle.admission_log.specs.Entries.{key_of, slot_in};
+ghost use Rattle.admission_log.specs.Entries.{HaveOwnKeys, entries_of, key_of, slot_in};
 ghost use Rattle.admission_log.specs.EntryOrder.{entry_cmp};
 ghost use Rattle.admission_log.specs.Biases.{HoldsAt, bias_at};
 ghost use Rattle.admission_log.specs.Plots.{in_rising_key, plane_of, plots_of};
@@ -54,6 +54,12 @@ pub fn entry_order()
     ensures exact { CmpEqualImpliesEq entry_cmp }
     ensures slots { (a b : Entry) → entry_cmp a b ≡ Less → slot_in a ≤ slot_in b }
     ensures slot_first { (a b : Entry) → slot_in a < slot_in b → entry_cmp a b ≡ Less }
+{}
+
+/// No two entries of a legal log have one key: neither the slot and the index of a change's event,
+/// nor the key of a plot.
+pub fn own_keys()
+    ensures { (settings : Settings) (log : History) → IsLegal settings log → HaveOwnKeys (entries_of log) }
 {}
 
 /// A legal log was legal at each earlier moment, and its last tick has never fallen and is below
