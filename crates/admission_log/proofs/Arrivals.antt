@@ -22,7 +22,7 @@ range_join a (suc n) m =
     ap (λ t. a ∷ t) (ap (λ k. range_with_len (a + 1) n ++ range_with_len k m) p ∙ range_join (a + 1) n m) ∙ ap (range_with_len a) q
 
 -- those of an event are the next ones
-of_event : (settings : Settings) (before : History) (e : Event) → IsLegalEvent settings before e → map (λ a. a.arrival) (admitted_in e) ≡ range_with_len (next_of before) (length (admitted_in e))
+pub of_event : (settings : Settings) (before : History) (e : Event) → IsLegalEvent settings before e → map (λ a. a.arrival) (admitted_in e) ≡ range_with_len (next_of before) (length (admitted_in e))
 of_event settings before (Deliver feed admitted told other) h = h.own_arrivals ∙ h.arrivals
 of_event settings before (Tick time) h = refl
 of_event settings before (Publish number cut) h = refl

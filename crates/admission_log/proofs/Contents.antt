@@ -4,10 +4,10 @@ use Rattle.asterix_frame.specs.declared.block.Block.{Block}
 use Rattle.asterix_frame.specs.declared.tables.Uap.{Uap}
 use Rattle.asterix_frame.specs.Tables.{category_of}
 use Rattle.asterix_frame.specs.Blocks.{DataBlock, IsDataBlock}
-use Rattle.asterix_frame.specs.Places.{data_block}
+use Rattle.asterix_frame.specs.Offsets.{data_block}
 use Rattle.asterix_frame.specs.DataRecords.{DataRecord}
 use Rattle.asterix_frame.specs.Bodies.{IsBody, body_of}
-use Rattle.asterix_frame.specs.Datagrams.{Content, records, other, IsRead, IsContent, block_of}
+use Rattle.asterix_frame.specs.Datagrams.{Content, records, other, IsReadCategory, IsContent, block_of}
 use Rattle.admission_log.specs.declared.settings.Settings.{Settings}
 use Rattle.admission_log.specs.declared.delivery.Delivery.{Delivery}
 use Rattle.admission_log.specs.Messages.{Message, messages_in, other_count}
@@ -19,7 +19,7 @@ same_block : (k l : ℕ) (x y : List ℕ) → k ≡ l → x ≡ y → let one : 
 same_block k l x y p q = λ i. record { category = p i; body = q i }
 
 -- a block of records
-pub records_content : (uap : Uap) (block : Block) (rs : List DataRecord) → IsRead uap → category_of uap ≡ block.cat → IsDataBlock (data_block block) → IsBody uap block.body.now rs → IsContent (records uap rs) × (block_of (records uap rs) ≡ data_block block)
+pub records_content : (uap : Uap) (block : Block) (rs : List DataRecord) → IsReadCategory uap → category_of uap ≡ block.cat → IsDataBlock (data_block block) → IsBody uap block.body.now rs → IsContent (records uap rs) × (block_of (records uap rs) ≡ data_block block)
 records_content uap block rs is_read category fits body =
     let same : block_of (records uap rs) ≡ data_block block = same_block (category_of uap) block.cat (body_of rs) block.body.now category (sym body.whole) in
     ((is_read, body.are_records, subst IsDataBlock (sym same) fits), same)

@@ -8,7 +8,10 @@ pub mod Sound
 pub mod Rising
 pub mod Entering
 pub mod Changing
+pub mod Greatest
+pub mod Holding
 pub mod Prefixes
 pub mod Arrivals
 pub mod Taken
 pub mod Keys
+pub mod OwnKeys

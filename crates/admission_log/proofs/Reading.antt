@@ -7,8 +7,8 @@ use Rattle.std.proofs.lemmas.List.Sums.{sum_by-append}
 use Rattle.asterix_frame.specs.declared.block.Block.{Block}
 use Rattle.asterix_frame.specs.declared.block.Malformed.{Malformed}
 use Rattle.asterix_frame.specs.Tables.{category_of}
-use Rattle.asterix_frame.specs.Blocks.{DataBlock, spelled}
-use Rattle.asterix_frame.specs.Places.{data_block, BeginsBlock}
+use Rattle.asterix_frame.specs.Blocks.{DataBlock, encoded}
+use Rattle.asterix_frame.specs.Offsets.{data_block, BeginsBlock}
 use Rattle.asterix_frame.specs.Answers.{BeginsNoBlock}
 use Rattle.asterix_frame.specs.Datagrams.{Content, IsContent, IsDatagram, DatagramFault, BeginsFaultyBlock, no_block, no_records, block_of, datagram_of}
 use Rattle.admission_log.specs.declared.settings.Settings.{Settings}
@@ -50,9 +50,9 @@ all_more : (contents : List Content) (c : Content) → AllByRecursion IsContent 
 all_more [] c all is = (is, tt)
 all_more (x ∷ xs) c all is = (all.0, all_more xs c all.1 is)
 
-datagram-more : (contents : List Content) (c : Content) (b : DataBlock) → block_of c ≡ b → datagram_of (contents ++ c ∷ []) ≡ datagram_of contents ++ spelled b
+datagram-more : (contents : List Content) (c : Content) (b : DataBlock) → block_of c ≡ b → datagram_of (contents ++ c ∷ []) ≡ datagram_of contents ++ encoded b
 datagram-more contents c b same =
-    flat_map-append (λ x. spelled (block_of x)) contents (c ∷ []) ∙ ap (λ t. datagram_of contents ++ t) (append-nil (spelled (block_of c)) ∙ ap spelled same)
+    flat_map-append (λ x. encoded (block_of x)) contents (c ∷ []) ∙ ap (λ t. datagram_of contents ++ t) (append-nil (encoded (block_of c)) ∙ ap encoded same)
 
 messages-more : (contents : List Content) (c : Content) → messages_of (contents ++ c ∷ []) ≡ messages_of contents ++ messages_in c
 messages-more contents c = flat_map-append messages_in contents (c ∷ []) ∙ ap (λ t. messages_of contents ++ t) (append-nil (messages_in c))
@@ -72,19 +72,19 @@ holds_more settings last next datagram from old new contents block c h begins is
     let ks = judged_all settings last (next + admitted_count js) (messages_in c) in
     let rest = drop end datagram in
     let grown = datagram-more contents c (data_block block) same in
-    let octets : drop from datagram ≡ spelled (data_block block) ++ rest = begins.octets ∙ ap (λ k. spelled (data_block block) ++ drop k datagram) (sym end_is) in
+    let octets : drop from datagram ≡ encoded (data_block block) ++ rest = begins.octets ∙ ap (λ k. encoded (data_block block) ++ drop k datagram) (sym end_is) in
     let judged : js ++ ks ≡ judged_all settings last next (messages_of (contents ++ c ∷ [])) =
     sym (judged_all-append settings last next (messages_of contents) (messages_in c)) ∙ ap (judged_all settings last next) (sym (messages-more contents c)) in
     let judgements = one_judgement settings last old.next (messages_in c) brings.judgements brings.are_judged in
     let then : Brings ks old new = subst (λ js. Brings js old new) (judgements ∙ ap (λ n. judged_all settings last n (messages_in c)) h.brings.next) brings.brings in
     record {
       are_contents = all_more contents c h.are_contents is;
-      whole = h.whole ∙ ap (λ t. datagram_of contents ++ t) octets ∙ sym (append_assoc (datagram_of contents) (spelled (data_block block)) rest) ∙ sym (ap (λ t. t ++ rest) grown);
-      place = omega (arith, end_is, begins.place, h.place, ap length grown, length-append (datagram_of contents) (spelled (data_block block)));
+      whole = h.whole ∙ ap (λ t. datagram_of contents ++ t) octets ∙ sym (append_assoc (datagram_of contents) (encoded (data_block block)) rest) ∙ sym (ap (λ t. t ++ rest) grown);
+      place = omega (arith, end_is, begins.at_is, h.place, ap length grown, length-append (datagram_of contents) (encoded (data_block block)));
       within = omega (arith, end_is, begins.within);
       brings = subst (λ t. Brings t (fresh next) new) judged (brings_more js ks (fresh next) old new h.brings then);
       other = omega (arith, brings.other, h.other, other-more contents c);
-      few = omega (arith, brings.other, h.few, one_other c, end_is, begins.place);
+      few = omega (arith, brings.other, h.few, one_other c, end_is, begins.at_is);
     }
 
 -- ---- how it ends
@@ -97,13 +97,13 @@ is_datagram settings last next datagram from d contents h over = record {
 
 pub head_fault : (settings : Settings) (last next : ℕ) (datagram : List ℕ) (from : ℕ) (d : Delivery) (contents : List Content) (m : Malformed) → Holds settings last next datagram from d contents → BeginsNoBlock datagram from m → DatagramFault datagram m.offset m.cause
 head_fault settings last next datagram from d contents m h none = record {
-  front = contents;
+  prefix = contents;
   rest = drop from datagram;
   inside = none.inside;
   are_contents = h.are_contents;
   whole = h.whole;
   none = no_block none.none;
-  place = omega (arith, none.place, h.place);
+  offset_is = omega (arith, none.offset_is, h.place);
 }
 
 pub records_fault : (settings : Settings) (last next : ℕ) (datagram : List ℕ) (from : ℕ) (d : Delivery) (contents : List Content) (block : Block) (m : Malformed) → Holds settings last next datagram from d contents → BeginsBlock datagram from block → IsFaultOfBlock block m → DatagramFault datagram m.offset m.cause
@@ -111,25 +111,25 @@ records_fault settings last next datagram from d contents block m h begins fault
     let back = sym fault.category in
     let same : data_block block ≡ record { category = category_of fault.uap; body = block.body.now } = λ i. record { category = back i; body = block.body.now } in
     let rest = drop (block.at + length block.body.now) datagram in
-    let faulty : BeginsFaultyBlock (drop from datagram) (3 + fault.fault.place) m.cause = record {
+    let faulty : BeginsFaultyBlock (drop from datagram) (3 + fault.fault.body_offset) m.cause = record {
       uap = fault.uap;
       body = block.body.now;
       rest = rest;
-      place = fault.fault.place;
+      body_offset = fault.fault.body_offset;
       is_read = fault.is_read;
       is_block = begins.fits;
-      begins = begins.octets ∙ ap (λ b. spelled b ++ rest) same;
+      begins = begins.octets ∙ ap (λ b. encoded b ++ rest) same;
       fault = fault.fault.fault;
       inside_is = refl;
     } in
     record {
-      front = contents;
+      prefix = contents;
       rest = drop from datagram;
-      inside = 3 + fault.fault.place;
+      inside = 3 + fault.fault.body_offset;
       are_contents = h.are_contents;
       whole = h.whole;
       none = no_records faulty;
-      place = omega (arith, fault.fault.offset, begins.place, h.place);
+      offset_is = omega (arith, fault.fault.offset_is, begins.at_is, h.place);
     }
 
 -- a datagram has one first fault

@@ -6,7 +6,7 @@ use Rattle.asterix_frame.specs.declared.block.Malformed.{Malformed}
 use Rattle.asterix_frame.specs.declared.tables.Uap.{Uap}
 use Rattle.asterix_frame.specs.Tables.{category_of}
 use Rattle.asterix_frame.specs.Bodies.{IsFaultOfBody}
-use Rattle.asterix_frame.specs.Datagrams.{Content, IsRead}
+use Rattle.asterix_frame.specs.Datagrams.{Content, IsReadCategory}
 use Rattle.admission_log.specs.declared.settings.Settings.{Settings}
 use Rattle.admission_log.specs.declared.events.Admitted.{Admitted}
 use Rattle.admission_log.specs.declared.events.Outcome.{Outcome}
@@ -40,6 +40,6 @@ pub record BringsBlock (settings : Settings) (last : ℕ) (content : Content) (o
 -- the body of a block of a category that is read isn't records
 pub record IsFaultOfBlock (block : Block) (m : Malformed) : Type 0 where
   pub uap : Uap
-  pub is_read : IsRead uap
+  pub is_read : IsReadCategory uap
   pub category : category_of uap ≡ block.cat
   pub fault : IsFaultOfBody uap block m

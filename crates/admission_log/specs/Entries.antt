@@ -1,6 +1,6 @@
 -- The entries of a log: each change of a radar's biases and each admitted plot is one, in the order of the log.
-use Rattle.std.specs.Prelude.{ℕ, List, [], ◌∷◌, map, refl}
-use Rattle.std.specs.List.{flat_map, enumerate_from}
+use Rattle.std.specs.Prelude.{◌≢◌, ⊤, ℕ, List, [], ◌∷◌, map, refl}
+use Rattle.std.specs.List.{flat_map, enumerate_from, AllByRecursion}
 use Rattle.trk_base.specs.Numbers.{slot_of}
 use Rattle.trk_base.specs.declared.keys.Key.{Key}
 use Rattle.admission_log.specs.declared.events.Admitted.{Admitted}
@@ -42,3 +42,8 @@ pub data EntryKey : Type 0 where
 abbrev pub entry_key : Entry → EntryKey
 entry_key (Bias slot place radar bias) = change_key slot place
 entry_key (Plot key raw) = plot_key key
+
+-- no two have one key
+abbrev pub HaveOwnKeys : List Entry → Type 0
+HaveOwnKeys [] = ⊤
+HaveOwnKeys (e ∷ es) = AllByRecursion (λ x. entry_key x ≢ entry_key e) es × HaveOwnKeys es

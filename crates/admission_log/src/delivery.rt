@@ -1,7 +1,7 @@
 // The event of a datagram.
 ghost use Rattle.std.specs.Prelude.{◌≡◌, ◌+◌, ◌<◌, ◌≤◌, ◌^◌, List, length, IfOk};
 ghost use Rattle.asterix_frame.specs.declared.block.Malformed.{Malformed};
-ghost use Rattle.asterix_frame.specs.Answers.{IfMalformed, Reads, Refuses};
+ghost use Rattle.asterix_frame.specs.Answers.{IfMalformed, AnswersWith, RefusesWith};
 ghost use Rattle.asterix_frame.specs.Datagrams.{Content, IsDatagram, DatagramFault};
 ghost use Rattle.trk_base.specs.Limits.{count_limit};
 ghost use Rattle.admission_log.specs.Histories.{admitted_in};
@@ -46,8 +46,8 @@ pub fn deliver(
     ensures malformed { IfMalformed result (λ m. DatagramFault datagram.now m.offset m.cause) }
 
     // The other directions, unless memory is wanting.
-    ensures reads { (contents : List Content) → IsDatagram datagram.now contents → Reads result (λ e. IsDelivery settings.now last next feed contents e) }
-    ensures refuses { (m : Malformed) → DatagramFault datagram.now m.offset m.cause → Refuses result (λ x. x ≡ m) }
+    ensures reads { (contents : List Content) → IsDatagram datagram.now contents → AnswersWith result (λ e. IsDelivery settings.now last next feed contents e) }
+    ensures refuses { (m : Malformed) → DatagramFault datagram.now m.offset m.cause → RefusesWith result (λ x. x ≡ m) }
 
     // No arrival reaches the limit.
     ensures arrivals { next ≤ count_limit → IfOk result (λ e. next + length (admitted_in e) ≤ count_limit) }
@@ -81,7 +81,7 @@ pub fn deliver(
 impl Delivery {
     ghost use Rattle.std.specs.Prelude.{◌≡◌, ◌<◌, ◌^◌, ℕ, [], ◌∷◌, map, OnOk};
     ghost use Rattle.asterix_frame.specs.Blocks.{IsDataBlock};
-    ghost use Rattle.asterix_frame.specs.Places.{data_block};
+    ghost use Rattle.asterix_frame.specs.Offsets.{data_block};
     ghost use Rattle.asterix_frame.specs.Answers.{IfMalformed};
     ghost use Rattle.asterix_frame.specs.Datagrams.{Content, IsContent, block_of};
     ghost use Rattle.admission_log.specs.Messages.{report, service};

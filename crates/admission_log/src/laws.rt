@@ -1,6 +1,9 @@
 // Laws of the definitions.
 ghost use Rattle.std.specs.Prelude.{◌≡◌, ◌<◌, ◌≤◌, ◌^◌, ℕ, List, map, length, All, IsSomeAnd};
 ghost use Rattle.std.specs.List.{range_with_len};
+ghost use Rattle.std.specs.Cmp.{IsTotalOrder};
+ghost use Rattle.std.specs.declared.cmp.Ordering.TheVariants.{Less};
+ghost use Rattle.std.proofs.lemmas.Map.Lookups.{CmpEqualImpliesEq};
 ghost use Rattle.std.specs.List.Sorted.{IsPermutation, IsSorted, IsStrictlySortedBy};
 ghost use Rattle.trk_base.specs.Keys.{key_cmp};
 ghost use Rattle.plot_geometry.specs.Plots.{PlanePlot};
@@ -11,7 +14,12 @@ ghost use Rattle.admission_log.specs.declared.events.Event.{Event};
 ghost use Rattle.admission_log.specs.Deliveries.{IsDelivery};
 ghost use Rattle.admission_log.specs.Histories.{History, first, last_of, admitted_of, next_of, high_at};
 ghost use Rattle.admission_log.specs.Legality.{IsLegal, WasOpen};
-ghost use Rattle.admission_log.specs.Entries.{key_of};
+ghost use Rattle.plot_geometry.specs.declared.biases.Bias.{Bias};
+ghost use Rattle.admission_log.specs.declared.entries.Entry.{Entry};
+ghost use Rattle.admission_log.specs.contracts.entries.EntryOrd.TheImpl.{ghosts};
+ghost use Rattle.admission_log.specs.Entries.{HaveOwnKeys, entries_of, key_of, slot_in};
+ghost use Rattle.admission_log.specs.EntryOrder.{entry_cmp};
+ghost use Rattle.admission_log.specs.Biases.{HoldsAt, bias_at};
 ghost use Rattle.admission_log.specs.Plots.{in_rising_key, plane_of, plots_of};
 
 /// Plots have exactly one order in rising key: whoever sorts them gets it.
@@ -30,6 +38,28 @@ pub fn arrivals_count()
 pub fn one_delivery()
     ensures some { (settings : Settings) (last next feed : ℕ) (contents : List Content) → (event : Event) × IsDelivery settings last next feed contents event }
     ensures only { (settings : Settings) (last next feed : ℕ) (contents : List Content) (a b : Event) → IsDelivery settings last next feed contents a → IsDelivery settings last next feed contents b → a ≡ b }
+{}
+
+/// For a radar's plots in a slot exactly one bias holds: that of the last change, or its own.
+pub fn one_bias()
+    ensures holds { (log : History) (own : Bias) (radar n : ℕ) → HoldsAt log own radar n (bias_at log own radar n) }
+    ensures only { (log : History) (own : Bias) (radar n : ℕ) (bias : Bias) → HoldsAt log own radar n bias → bias ≡ bias_at log own radar n }
+{}
+
+/// The order of `Ord` compares the slots of entries first, it is total, and only an entry itself
+/// compares as equal to it.
+pub fn entry_order()
+    ensures order { (a b : Entry) → ghosts.cmp a b ≡ entry_cmp a b }
+    ensures total { IsTotalOrder entry_cmp }
+    ensures exact { CmpEqualImpliesEq entry_cmp }
+    ensures slots { (a b : Entry) → entry_cmp a b ≡ Less → slot_in a ≤ slot_in b }
+    ensures slot_first { (a b : Entry) → slot_in a < slot_in b → entry_cmp a b ≡ Less }
+{}
+
+/// No two entries of a legal log have one key: neither the slot and the index of a change's event,
+/// nor the key of a plot.
+pub fn own_keys()
+    ensures { (settings : Settings) (log : History) → IsLegal settings log → HaveOwnKeys (entries_of log) }
 {}
 
 /// A legal log was legal at each earlier moment, and its last tick has never fallen and is below

@@ -18,7 +18,8 @@ pub use entries::Entry;
 pub use events::{AdmitError, Admitted, BiasError, Event, Outcome, Receipt, TickError};
 pub use judging::{AHEAD_LIMIT, judge, judge_bias};
 pub use laws::{
-    admitted_plots, arrivals_count, keys_rise, legal_prefixes, one_delivery, one_rising_order,
+    admitted_plots, arrivals_count, entry_order, keys_rise, legal_prefixes, one_bias, one_delivery,
+    one_rising_order, own_keys,
 };
 pub use log::Log;
 pub use plots::plots_of;

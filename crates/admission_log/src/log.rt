@@ -2,7 +2,7 @@
 ghost use Rattle.std.specs.Prelude.{◌≡◌, ◌+◌, ◌<◌, ◌≤◌, ◌^◌, ℕ, List, [], length, Err, IfErr, IfOk, OnOk, OnErr};
 ghost use Rattle.trk_base.specs.Limits.{count_limit};
 ghost use Rattle.asterix_frame.specs.declared.block.Malformed.{Malformed};
-ghost use Rattle.asterix_frame.specs.Answers.{IfMalformed, Reads, Refuses};
+ghost use Rattle.asterix_frame.specs.Answers.{IfMalformed, AnswersWith, RefusesWith};
 ghost use Rattle.asterix_frame.specs.Datagrams.{Content, IsDatagram, DatagramFault};
 ghost use Rattle.admission_log.specs.declared.settings.Settings.{Settings};
 ghost use Rattle.admission_log.specs.declared.events.Event.TheVariants as events;
@@ -134,8 +134,8 @@ impl Log {
         ensures malformed { IfMalformed result (λ m. DatagramFault datagram.now m.offset m.cause) }
 
         // The other directions, unless memory is wanting.
-        ensures reads { (contents : List Content) → IsDatagram datagram.now contents → Reads result (λ r. Delivers settings.now feed contents self.old self.new r.outcomes) }
-        ensures refuses { (m : Malformed) → DatagramFault datagram.now m.offset m.cause → Refuses result (λ x. x ≡ m) }
+        ensures reads { (contents : List Content) → IsDatagram datagram.now contents → AnswersWith result (λ r. Delivers settings.now feed contents self.old self.new r.outcomes) }
+        ensures refuses { (m : Malformed) → DatagramFault datagram.now m.offset m.cause → RefusesWith result (λ x. x ≡ m) }
 
         ensures err { OnErr result (self.new ≡ self.old) }
         ensures legal { IsLegal settings.now self.old → IsLegal settings.now self.new }

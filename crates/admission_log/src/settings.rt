@@ -2,9 +2,6 @@
 ghost use Rattle.std.specs.Prelude.{◌≡◌, ◌<◌, ◌≤◌, length, IfSome};
 ghost use Rattle.admission_log.specs.Sources.{HaveOwnSources, radar_of};
 
-#[cfg(test)]
-mod tests;
-
 use plot_geometry::RadarSettings;
 use std::alloc::Global;
 use track_life::LifeSettings;

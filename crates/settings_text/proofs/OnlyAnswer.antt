@@ -19,7 +19,7 @@ use Rattle.settings_text.specs.declared.faults.SettingsError.TheVariants.{Fault,
 use Rattle.settings_text.specs.Tables.{Gives}
 use Rattle.settings_text.specs.Numbers.{system_numbers, radar_numbers}
 use Rattle.settings_text.specs.Documents.{number_faults, IsRadar, SystemGives, AreRadars}
-use Rattle.settings_text.specs.Answers.{IsDocument, IsSettings, IsFaultOf, wrong_number, unknown_key, duplicate, IsFault, no_document, in_document, IsAnswer, Repeats, HasDuplicate, IsFirst, OnFault, Agrees}
+use Rattle.settings_text.specs.Answers.{IsDocument, IsSettings, IsFaultOf, wrong_number, unknown_key, duplicate, IsSettingsFault, no_document, in_document, IsSettingsAnswer, Repeats, HasDuplicate, IsFirst, OnFault, Agrees}
 use Rattle.settings_text.proofs.Right.{numbers_right}
 
 -- radars with the same numbers are one, since each of their ranges has one proof
@@ -70,7 +70,7 @@ radar_made_same s t e f h =
     let P : RadarFields → Type 0 = λ z. (g : RadarFacts z) → radar_made s e ≡ radar_made z g in
     subst P h (λ g. ap (radar_made s) (radar_facts_prop s e g)) f
 
--- the number at a place, with and without its sign
+-- the number at an index, with and without its sign
 abbrev at : ℕ → List ℤ → ℤ
 at k numbers = get_or numbers k (pos 0)
 
@@ -189,8 +189,8 @@ not_before radars radar first second g h before =
     let source : HasSource g.one.sac g.one.sic h.other = subst (HasSource g.one.sac g.one.sic) both g.same in
     not_alike radars radar first second g.one h.one g.least before h.earlier (radar_within radars second h.one h.one_is) g.one_is h.one_is (sym h.same.0 ∙ source.0, sym h.same.1 ∙ source.1)
 
-one_place : (a b : ℕ) → (a < b → ⊥) → (b < a → ⊥) → a ≡ b
-one_place a b h k =
+one_index : (a b : ℕ) → (a < b → ⊥) → (b < a → ⊥) → a ≡ b
+one_index a b h k =
     elim (cases_lt a b) [
       | inl before ↦ absurd (h before)
       | inr after ↦ elim (cases_lt b a) [
@@ -201,9 +201,9 @@ one_place a b h k =
 
 same_repeats : (radars : List RadarSettings) (radar first other second : ℕ) → Repeats radars radar first → Repeats radars other second → (radar ≡ other) × (first ≡ second)
 same_repeats radars radar first other second g h =
-    let place = one_place radar other (not_earlier radars radar first other second g h) (not_earlier radars other second radar first h g) in
+    let place = one_index radar other (not_earlier radars radar first other second g h) (not_earlier radars other second radar first h g) in
     let k : Repeats radars radar second = subst (λ n. Repeats radars n second) (sym place) h in
-    (place, one_place first second (not_before radars radar first second g k) (not_before radars radar second first k g))
+    (place, one_index first second (not_before radars radar first second g k) (not_before radars radar second first k g))
 
 -- two answers of one document
 no_repeat : (document : Members) (settings : Settings) (radar first : ℕ) → IsSettings document settings → HasDuplicate document radar first → ⊥
@@ -252,18 +252,18 @@ same_fault document f g (duplicate right known radar first has is) (duplicate ri
 same_document : (octets : List ℕ) (d e : Members) → IsDocument octets d → IsDocument octets e → d ≡ e
 same_document octets d e g h = same_Some d e (sym g.parsed ∙ h.parsed)
 
-settings_or_fault : (octets : List ℕ) (document : Members) (settings : Settings) (fault : SettingsFault) → IsDocument octets document → IsSettings document settings → IsFault octets fault → ⊥
+settings_or_fault : (octets : List ℕ) (document : Members) (settings : Settings) (fault : SettingsFault) → IsDocument octets document → IsSettings document settings → IsSettingsFault octets fault → ⊥
 settings_or_fault octets document settings fault is has (no_document none same) = none document is
 settings_or_fault octets document settings fault is has (in_document d is' found) =
     no_fault document settings fault has (subst (λ x. IsFaultOf x fault) (same_document octets d document is' is) found)
 
-one_fault : (octets : List ℕ) (f g : SettingsFault) → IsFault octets f → IsFault octets g → f ≡ g
+one_fault : (octets : List ℕ) (f g : SettingsFault) → IsSettingsFault octets f → IsSettingsFault octets g → f ≡ g
 one_fault octets f g (no_document none same) (no_document none' same') = same ∙ sym same'
 one_fault octets f g (no_document none same) (in_document d is found) = absurd (none d is)
 one_fault octets f g (in_document d is found) (no_document none same) = absurd (none d is)
 one_fault octets f g (in_document d is found) (in_document e is' found') = same_fault e f g (subst (λ x. IsFaultOf x f) (same_document octets d e is is') found) found'
 
-pub only_answer : (octets : List ℕ) (a b : Result Settings SettingsFault) → IsAnswer octets a → IsAnswer octets b → a ≡ b
+pub only_answer : (octets : List ℕ) (a b : Result Settings SettingsFault) → IsSettingsAnswer octets a → IsSettingsAnswer octets b → a ≡ b
 only_answer octets (Ok s) (Ok t) g h =
     let same = same_document octets g.0 h.0 g.1 h.1 in
     let is : IsSettings h.0 s = subst (λ d. IsSettings d s) same g.2 in
@@ -273,8 +273,8 @@ only_answer octets (Err f) (Ok t) g h = absurd (settings_or_fault octets h.0 t f
 only_answer octets (Err f) (Err k) g h = ap Err (one_fault octets f k g h)
 
 -- so a result that is an answer is the only one
-pub agrees : (octets : List ℕ) (result : Result Settings SettingsError) (answer : Result Settings SettingsFault) → IfOk result (λ settings. IsAnswer octets (Ok settings))
-    → IfErr result (λ error. OnFault error (λ fault. IsAnswer octets (Err fault))) → IsAnswer octets answer → Agrees result answer
+pub agrees : (octets : List ℕ) (result : Result Settings SettingsError) (answer : Result Settings SettingsFault) → IfOk result (λ settings. IsSettingsAnswer octets (Ok settings))
+    → IfErr result (λ error. OnFault error (λ fault. IsSettingsAnswer octets (Err fault))) → IsSettingsAnswer octets answer → Agrees result answer
 agrees octets (Ok settings) answer ok err given = only_answer octets answer (Ok settings) given ok
 agrees octets (Err (Fault fault)) answer ok err given = only_answer octets answer (Err fault) given err
 agrees octets (Err NoMemory) answer ok err given = tt

@@ -1,4 +1,4 @@
--- Numbers that are within the ranges of their keys, place by place.
+-- Numbers that are within the ranges of their keys, index by index.
 use Rattle.std.proofs.Common.{◌≡◌, ℕ, zero, suc, ◌<◌, ℤ, pos, Bool, true, List, [], ◌∷◌, length, get_or, map, Option, Some, None, option_map, Ok, inl, inr, refl, rules, arith}
 use Rattle.std.specs.Prelude.{int_le}
 use Rattle.std.specs.List.{range_with_len, list_all}
@@ -6,21 +6,21 @@ use Rattle.std.proofs.lemmas.Bool.{and_parts, cases_Bool}
 use Rattle.std.proofs.lemmas.List.FromFn.{fill_by_all}
 use Rattle.toml.specs.Data.{Members, get_member, as_integer}
 use Rattle.settings_text.specs.Keys.{Otherwise, required, default, Key}
-use Rattle.settings_text.specs.Tables.{IsBetween, is_within, AreWithin, left_out, number_of, Gives}
+use Rattle.settings_text.specs.Tables.{IsInRange, is_within, AreWithin, left_out, number_of, Gives}
 
-between : (key : Key) (number : ℤ) → is_within key number ≡ true → IsBetween key.least key.greatest number
+between : (key : Key) (number : ℤ) → is_within key number ≡ true → IsInRange key.least key.greatest number
 between key number h =
     let parts = and_parts (int_le key.least number) (int_le number key.greatest) h in (search rules, search rules)
 
-pub range_at : (keys : List Key) (numbers : List ℤ) (k : ℕ) (d : Key) → AreWithin keys numbers → k < length keys → IsBetween (get_or keys k d).least (get_or keys k d).greatest (get_or numbers k (pos 0))
+pub range_at : (keys : List Key) (numbers : List ℤ) (k : ℕ) (d : Key) → AreWithin keys numbers → k < length keys → IsInRange (get_or keys k d).least (get_or keys k d).greatest (get_or numbers k (pos 0))
 range_at [] numbers k d within h = absurd (omega arith)
 range_at (key ∷ keys) [] k d within h = absurd within
 range_at (key ∷ keys) (number ∷ numbers) zero d within h = between key number within.0
 range_at (key ∷ keys) (number ∷ numbers) (suc k) d within h = range_at keys numbers k d within.1 (omega arith)
 
 -- a list of known length, written out
-pub by_place : (n : ℕ) (numbers : List ℤ) → length numbers ≡ n → numbers ≡ map (λ k. get_or numbers k (pos 0)) (range_with_len 0 n)
-by_place n numbers long = fill_by_all (λ k. get_or numbers k (pos 0)) numbers n (pos 0) long (λ k h. refl)
+pub by_index : (n : ℕ) (numbers : List ℤ) → length numbers ≡ n → numbers ≡ map (λ k. get_or numbers k (pos 0)) (range_with_len 0 n)
+by_index n numbers long = fill_by_all (λ k. get_or numbers k (pos 0)) numbers n (pos 0) long (λ k h. refl)
 
 -- the default of a key, if it has one, passes a test
 abbrev pub passes : (ℤ → Bool) → Otherwise → Bool

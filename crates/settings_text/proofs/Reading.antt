@@ -8,7 +8,7 @@ use Rattle.toml.specs.Data.{Members}
 use Rattle.settings_text.specs.declared.keys.KeyRule.{KeyRule}
 use Rattle.settings_text.specs.declared.faults.SettingsFault.{SettingsFault}
 use Rattle.settings_text.specs.Keys.{Key}
-use Rattle.settings_text.specs.Rules.{key_of, keys_of}
+use Rattle.settings_text.specs.Rules.{key_of_rule, keys_of_rules}
 use Rattle.settings_text.specs.Tables.{number_at, fault_at, Gives, faults}
 use Rattle.settings_text.specs.Answers.{IsFirst}
 use Rattle.settings_text.proofs.Rules.{key_at}
@@ -37,11 +37,11 @@ first_wrong radar table keys numbers i d fault h given found =
 
 -- the same of the keys of some rules
 pub gives_more : (table : Members) (rules : List KeyRule) (numbers : List ℤ) (i : ℕ) (d : KeyRule) (number : ℤ) → i < length rules → i < length numbers
-    → Gives table (take i (keys_of rules)) (take i numbers) → number_at table (key_of (get_or rules i d)) ≡ Ok number → Gives table (take (i + 1) (keys_of rules)) (take (i + 1) (set numbers i number))
+    → Gives table (take i (keys_of_rules rules)) (take i numbers) → number_at table (key_of_rule (get_or rules i d)) ≡ Ok number → Gives table (take (i + 1) (keys_of_rules rules)) (take (i + 1) (set numbers i number))
 gives_more table rules numbers i d number h k given found =
-    more_given table (keys_of rules) numbers i (key_of d) number (omega (arith, length-map rules key_of)) k given (ap (number_at table) (key_at rules i d h) ∙ found)
+    more_given table (keys_of_rules rules) numbers i (key_of_rule d) number (omega (arith, length-map rules key_of_rule)) k given (ap (number_at table) (key_at rules i d h) ∙ found)
 
 pub first_fault : (radar : Option ℕ) (table : Members) (rules : List KeyRule) (numbers : List ℤ) (i : ℕ) (d : KeyRule) (fault : SettingsFault) → i < length rules
-    → Gives table (take i (keys_of rules)) (take i numbers) → fault_at radar table (key_of (get_or rules i d)) ≡ Some fault → IsFirst fault (faults radar table (keys_of rules))
+    → Gives table (take i (keys_of_rules rules)) (take i numbers) → fault_at radar table (key_of_rule (get_or rules i d)) ≡ Some fault → IsFirst fault (faults radar table (keys_of_rules rules))
 first_fault radar table rules numbers i d fault h given found =
-    first_wrong radar table (keys_of rules) numbers i (key_of d) fault (omega (arith, length-map rules key_of)) given (ap (fault_at radar table) (key_at rules i d h) ∙ found)
+    first_wrong radar table (keys_of_rules rules) numbers i (key_of_rule d) fault (omega (arith, length-map rules key_of_rule)) given (ap (fault_at radar table) (key_at rules i d h) ∙ found)

@@ -12,7 +12,7 @@ use Rattle.settings_text.specs.Keys.{system_keys}
 use Rattle.settings_text.specs.declared.faults.SettingsError.{SettingsError}
 use Rattle.settings_text.specs.declared.faults.SettingsError.TheVariants.{Fault, NoMemory}
 use Rattle.settings_text.specs.Documents.{system_of, radars_of, system_faults, radars_faults, entries_faults, number_faults, IsRadar, SystemGives, AreRadars}
-use Rattle.settings_text.specs.Answers.{IsDocument, IsFaultOf, in_document, IsAnswer, OnFault}
+use Rattle.settings_text.specs.Answers.{IsDocument, IsFaultOf, in_document, IsSettingsAnswer, OnFault}
 use Rattle.settings_text.proofs.Reading.{no_faults}
 use Rattle.settings_text.proofs.Entries.{no_numbered_faults}
 
@@ -37,7 +37,7 @@ numbers_right document numbers radars given are some most = rw (system_right doc
 
 -- the first fault of the document is that of its octets
 pub told : (octets : List ℕ) (document : Members) → IsDocument octets document → (result : Result Settings SettingsError) → IfErr result (λ error. OnFault error (IsFaultOf document))
-    → IfErr result (λ error. OnFault error (λ fault. IsAnswer octets (Err fault)))
+    → IfErr result (λ error. OnFault error (λ fault. IsSettingsAnswer octets (Err fault)))
 told octets document is (Ok settings) found = found
 told octets document is (Err (Fault fault)) found = in_document document is found
 told octets document is (Err NoMemory) found = found

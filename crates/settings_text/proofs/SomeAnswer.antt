@@ -17,11 +17,11 @@ use Rattle.admission_log.proofs.Radars.{found_within}
 use Rattle.settings_text.specs.Keys.{Key, system_keys, radar_keys}
 use Rattle.settings_text.specs.declared.faults.SettingsFault.{SettingsFault}
 use Rattle.settings_text.specs.declared.faults.SettingsFault.TheVariants.{Syntax, Unknown, Duplicate}
-use Rattle.settings_text.specs.Tables.{Flaw, number_at, Gives, faults, is_within, AreWithin}
+use Rattle.settings_text.specs.Tables.{KeyFault, number_at, Gives, faults, is_within, AreWithin}
 use Rattle.settings_text.specs.Numbers.{system_numbers, radar_numbers}
 use Rattle.settings_text.specs.Documents.{system_of, radars_of, system_faults, numbered_faults, entries_faults, radars_faults, number_faults, is_known, IsRadar, SystemGives, AreRadars}
-use Rattle.settings_text.specs.Answers.{IsDocument, IsSettings, IsFaultOf, wrong_number, unknown_key, duplicate, no_document, in_document, IsAnswer, Repeats}
-use Rattle.settings_text.proofs.Ranges.{blank, range_at, by_place, gives_within}
+use Rattle.settings_text.specs.Answers.{IsDocument, IsSettings, IsFaultOf, wrong_number, unknown_key, duplicate, no_document, in_document, IsSettingsAnswer, Repeats}
+use Rattle.settings_text.proofs.Ranges.{blank, range_at, by_index, gives_within}
 use Rattle.settings_text.proofs.Repeating.{own_more, repeats_at}
 
 -- two lists that are empty together
@@ -33,7 +33,7 @@ empty_parts (x ∷ xs) ys e = absurd (omega (arith, ap length e))
 abbrev Given : Members → List Key → Type 0
 Given table keys = (numbers : List ℤ) × Gives table keys numbers
 
-one_given : (radar : Option ℕ) (table : Members) (key : Key) (others : List Key) (found : Result ℤ Flaw) → number_at table key ≡ found → faults radar table (key ∷ others) ≡ []
+one_given : (radar : Option ℕ) (table : Members) (key : Key) (others : List Key) (found : Result ℤ KeyFault) → number_at table key ≡ found → faults radar table (key ∷ others) ≡ []
     → (faults radar table others ≡ [] → Given table others) → Given table (key ∷ others)
 one_given radar table key others (Ok number) is none rest = (let more = rest (rw is at none) in (number ∷ more.0, (is, more.1)))
 one_given radar table key others (Err flaw) is none rest = absurd (omega (arith, ap length (rw is at none)))
@@ -93,7 +93,7 @@ some_radar numbers within =
       },
       (λ i. a.1 i ∷ b.1 i ∷ get_or numbers 2 (pos 0) ∷ get_or numbers 3 (pos 0) ∷ get_or numbers 4 (pos 0) ∷ n.1 i ∷ get_or numbers 6 (pos 0) ∷ get_or numbers 7 (pos 0)
           ∷ get_or numbers 8 (pos 0) ∷ get_or numbers 9 (pos 0) ∷ rs.1 i ∷ as'.1 i ∷ [])
-          ∙ sym (by_place 12 numbers long),
+          ∙ sym (by_index 12 numbers long),
     )
 
 -- the settings of seven numbers in range and of radars
@@ -130,7 +130,7 @@ some_settings numbers radars within some most own =
         radars_range = (some, most);
         own_sources = own;
       },
-      (λ i. a.1 i ∷ b.1 i ∷ s.1 i ∷ w.1 i ∷ h.1 i ∷ t.1 i ∷ k.1 i ∷ []) ∙ sym (by_place 7 numbers long),
+      (λ i. a.1 i ∷ b.1 i ∷ s.1 i ∷ w.1 i ∷ h.1 i ∷ t.1 i ∷ k.1 i ∷ []) ∙ sym (by_index 7 numbers long),
       refl,
     )
 
@@ -237,9 +237,9 @@ by_faults document [] right =
     ]
 
 abbrev SomeAnswer : List ℕ → Type 0
-SomeAnswer octets = (answer : Result Settings SettingsFault) × IsAnswer octets answer
+SomeAnswer octets = (answer : Result Settings SettingsFault) × IsSettingsAnswer octets answer
 
-of_document : (octets : List ℕ) (document : Members) → IsDocument octets document → (answer : Result Settings SettingsFault) → InDocument document answer → IsAnswer octets answer
+of_document : (octets : List ℕ) (document : Members) → IsDocument octets document → (answer : Result Settings SettingsFault) → InDocument document answer → IsSettingsAnswer octets answer
 of_document octets document is (Ok settings) found = (document, is, found)
 of_document octets document is (Err fault) found = in_document document is found
 

@@ -51,20 +51,20 @@ pub data IsFaultOf (document : Members) (fault : SettingsFault) : Type 0 where
   duplicate : number_faults document ≡ [] → is_known document ≡ true → (radar first : ℕ) → HasDuplicate document radar first → fault ≡ Duplicate radar first → IsFaultOf document fault
 
 -- the first fault of some octets
-pub data IsFault (octets : List ℕ) (fault : SettingsFault) : Type 0 where
-  no_document : ((document : Members) → ¬ IsDocument octets document) → fault ≡ Syntax → IsFault octets fault
-  in_document : (document : Members) → IsDocument octets document → IsFaultOf document fault → IsFault octets fault
+pub data IsSettingsFault (octets : List ℕ) (fault : SettingsFault) : Type 0 where
+  no_document : ((document : Members) → ¬ IsDocument octets document) → fault ≡ Syntax → IsSettingsFault octets fault
+  in_document : (document : Members) → IsDocument octets document → IsFaultOf document fault → IsSettingsFault octets fault
 
 -- the octets give these settings, or have this first fault
-abbrev pub IsAnswer : List ℕ → Result Settings SettingsFault → Type 0
-IsAnswer octets (Ok settings) = (document : Members) × IsDocument octets document × IsSettings document settings
-IsAnswer octets (Err fault) = IsFault octets fault
+abbrev pub IsSettingsAnswer : List ℕ → Result Settings SettingsFault → Type 0
+IsSettingsAnswer octets (Ok settings) = (document : Members) × IsDocument octets document × IsSettings document settings
+IsSettingsAnswer octets (Err fault) = IsSettingsFault octets fault
 
 -- octets have one answer, and no other
-pub record HasOneAnswer (octets : List ℕ) : Type 0 where
+pub record HasOneSettingsAnswer (octets : List ℕ) : Type 0 where
   pub answer : Result Settings SettingsFault
-  pub is_answer : IsAnswer octets answer
-  pub only : (other : Result Settings SettingsFault) → IsAnswer octets other → other ≡ answer
+  pub is_answer : IsSettingsAnswer octets answer
+  pub only : (other : Result Settings SettingsFault) → IsSettingsAnswer octets other → other ≡ answer
 
 -- of a refusal by a fault; want of memory says nothing
 abbrev pub OnFault : SettingsError → (SettingsFault → Type 0) → Type 0

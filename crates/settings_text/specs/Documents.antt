@@ -82,16 +82,16 @@ pub record AreRadars (document : Members) (radars : List RadarSettings) : Type 0
   pub each : AllZip IsRadar entries radars
 
 -- what is a table has these keys only
-abbrev pub knows : List Key → Option Members → Bool
-knows keys None = true
-knows keys (Some table) = has_only keys table
+abbrev pub has_known_keys : List Key → Option Members → Bool
+has_known_keys keys None = true
+has_known_keys keys (Some table) = has_only keys table
 
 abbrev pub system_known : Option (Option Members) → Bool
 system_known None = true
-system_known (Some system) = knows system_keys system
+system_known (Some system) = has_known_keys system_keys system
 
 abbrev pub radars_known : Option (Option (List (Option Members))) → Bool
-radars_known (Some (Some entries)) = list_all (knows radar_keys) entries
+radars_known (Some (Some entries)) = list_all (has_known_keys radar_keys) entries
 radars_known other = true
 
 -- the name of one of the two keys of a document

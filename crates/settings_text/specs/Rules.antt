@@ -30,9 +30,9 @@ otherwise_of None = required
 otherwise_of (Some number) = default number
 
 -- the key of a rule
-abbrev pub key_of : KeyRule → Key
-key_of rule = record { number = rule.number; name = text_of rule.name; least = rule.least; greatest = rule.greatest; otherwise = otherwise_of rule.default }
+abbrev pub key_of_rule : KeyRule → Key
+key_of_rule rule = record { number = rule.number; name = text_of rule.name; least = rule.least; greatest = rule.greatest; otherwise = otherwise_of rule.default }
 
 -- the keys of some rules
-abbrev pub keys_of : List KeyRule → List Key
-keys_of = map key_of
+abbrev pub keys_of_rules : List KeyRule → List Key
+keys_of_rules = map key_of_rule

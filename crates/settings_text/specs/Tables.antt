@@ -10,16 +10,16 @@ use Rattle.settings_text.specs.declared.faults.SettingsFault.TheVariants.{Missin
 use Rattle.settings_text.specs.Keys.{Otherwise, required, default, Key}
 
 -- what is wrong, once it is said where
-abbrev pub Flaw : Type 0
-Flaw = KeyPath → SettingsFault
+abbrev pub KeyFault : Type 0
+KeyFault = KeyPath → SettingsFault
 
 -- the key of a radar, or of the system
 abbrev pub path : Option ℕ → ℕ → KeyPath
 path radar key = record { radar = radar; key = key }
 
 -- the number is neither below the least nor above the greatest
-abbrev pub IsBetween : ℤ → ℤ → ℤ → Type 0
-IsBetween least greatest number = (least ≤ℤ number) × (number ≤ℤ greatest)
+abbrev pub IsInRange : ℤ → ℤ → ℤ → Type 0
+IsInRange least greatest number = (least ≤ℤ number) × (number ≤ℤ greatest)
 
 -- whether the number is in the range of the key
 abbrev pub is_within : Key → ℤ → Bool
@@ -30,18 +30,18 @@ abbrev pub AreWithin : List Key → List ℤ → Type 0
 AreWithin = AllZip (λ key number. is_within key number ≡ true)
 
 -- the number of a key that is left out
-abbrev pub left_out : Otherwise → Result ℤ Flaw
+abbrev pub left_out : Otherwise → Result ℤ KeyFault
 left_out required = Err Missing
 left_out (default number) = Ok number
 
 -- The number of a key, by what stands there: nothing, something that is no integer, or an integer.
-abbrev pub number_of : Key → Option (Option ℤ) → Result ℤ Flaw
+abbrev pub number_of : Key → Option (Option ℤ) → Result ℤ KeyFault
 number_of key None = left_out key.otherwise
 number_of key (Some None) = Err Kind
 number_of key (Some (Some number)) = if is_within key number then Ok number else Err Range
 
 -- the number that a table gives a key
-abbrev pub number_at : Members → Key → Result ℤ Flaw
+abbrev pub number_at : Members → Key → Result ℤ KeyFault
 number_at table key = number_of key (option_map as_integer (get_member key.name table))
 
 -- the numbers that a table gives some keys, in their order

@@ -8,7 +8,7 @@ ghost use Rattle.settings_text.specs.declared.faults.SettingsFault.TheVariants.{
 ghost use Rattle.std.specs.List.{list_all};
 ghost use Rattle.settings_text.specs.Tables.{names};
 ghost use Rattle.settings_text.specs.Documents.{is_known, is_part};
-ghost use Rattle.settings_text.specs.Answers.{IsDocument, IsSettings, IsFaultOf, IsAnswer, OnFault, Agrees};
+ghost use Rattle.settings_text.specs.Answers.{IsDocument, IsSettings, IsFaultOf, IsSettingsAnswer, OnFault, Agrees};
 
 use crate::faults::{SettingsError, SettingsFault};
 use crate::radars::{radars_are_known, read_radars, repeated};
@@ -18,17 +18,21 @@ use std::alloc::Global;
 use toml::Table;
 
 /// How many octets the settings have at most.
-pub const MAX_OCTETS: usize = 65_536;
+pub const SETTINGS_LIMIT: usize = 65_536;
 
-/// The settings that a document gives: TOML 1.1, as `toml` defines it, in UTF-8 of at most 65,536 octets. `specs/Keys.antt` lists its keys, with ranges and defaults.
+/// The settings that a document gives: TOML 1.1, as `toml` defines it, in UTF-8 of at most 65,536
+/// octets. `specs/Keys.antt` lists its keys, with ranges and defaults.
 ///
-/// Else its first fault is told, in this order: that there is no such document; what is wrong with keys 1 to 7 of the system; what is wrong with the radars, one after the other, each with keys 8 to 19; that there is an unknown key; that two radars have the same SAC and SIC. Want of memory comes at any place.
+/// Else its first fault is told, in this order: that there is no such document; what is wrong with
+/// keys 1 to 7 of the system; what is wrong with the radars, one after the other, each with keys 8
+/// to 19; that there is an unknown key; that two radars have the same SAC and SIC. Want of memory
+/// comes at any point.
 pub fn read_settings(alloc: Global, bytes: &[u8]) -> Result<Settings, SettingsError>
-    ensures ok { IfOk result (λ settings. IsAnswer bytes.now (Ok settings)) }
-    ensures fault { IfErr result (λ error. OnFault error (λ fault. IsAnswer bytes.now (Err fault))) }
+    ensures ok { IfOk result (λ settings. IsSettingsAnswer bytes.now (Ok settings)) }
+    ensures fault { IfErr result (λ error. OnFault error (λ fault. IsSettingsAnswer bytes.now (Err fault))) }
 
     // The other direction, unless memory is wanting.
-    ensures exact { (answer : Result Settings SettingsFault) → IsAnswer bytes.now answer → Agrees result answer }
+    ensures exact { (answer : Result Settings SettingsFault) → IsSettingsAnswer bytes.now answer → Agrees result answer }
 {
     let document = parse(alloc, bytes)?;
     read_document(alloc, &document)
@@ -40,7 +44,7 @@ fn parse(alloc: Global, bytes: &[u8]) -> Result<Table, SettingsError>
     ensures none { IfErr result (λ error. OnFault error (λ fault. (document : Members) → ¬ IsDocument bytes.now document)) }
     ensures syntax { IfErr result (λ error. OnFault error (λ fault. fault ≡ Syntax)) }
 {
-    if bytes.len() > MAX_OCTETS {
+    if bytes.len() > SETTINGS_LIMIT {
         return Err(SettingsError::Fault(SettingsFault::Syntax));
     }
     match toml::table_from_slice(alloc, bytes) {

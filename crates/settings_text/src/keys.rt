@@ -1,4 +1,5 @@
-//! The program's table of the keys. `laws::one_table` says that it is the list of the definition, `specs/Keys.antt`.
+//! The program's table of the keys. `laws::one_table` says that it is the list of the definition,
+//! `specs/Keys.antt`.
 
 /// The name of a key.
 #[derive(Clone, Copy, Debug, PartialEq, Eq)]
@@ -17,9 +18,9 @@ pub enum Name {
     KeepTentative,
     /// How many seconds a confirmed track is kept without a plot.
     KeepConfirmed,
-    /// A radar's place to the east, in m.
+    /// A radar's position to the east, in m.
     X,
-    /// A radar's place to the north, in m.
+    /// A radar's position to the north, in m.
     Y,
     /// A radar's height, in m.
     Height,

@@ -13,6 +13,6 @@ mod tables;
 mod tests;
 mod texts;
 
-pub use document::{MAX_OCTETS, read_settings};
+pub use document::{SETTINGS_LIMIT, read_settings};
 pub use faults::{KeyPath, SettingsError, SettingsFault};
-pub use laws::{one_answer, one_table};
+pub use laws::{one_settings_answer, one_table};

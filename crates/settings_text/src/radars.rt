@@ -7,7 +7,7 @@ ghost use Rattle.admission_log.specs.Sources.{HaveOwnSources};
 ghost use Rattle.settings_text.specs.Keys.{radar_keys};
 ghost use Rattle.settings_text.specs.Tables.{AreWithin, path};
 ghost use Rattle.settings_text.specs.Numbers.{radar_numbers};
-ghost use Rattle.settings_text.specs.Documents.{radars_of, tables_of, entry_faults, numbered_faults, entries_faults, radars_faults, IsRadar, AreRadars, knows, radars_known};
+ghost use Rattle.settings_text.specs.Documents.{radars_of, tables_of, entry_faults, numbered_faults, entries_faults, radars_faults, IsRadar, AreRadars, has_known_keys, radars_known};
 ghost use Rattle.settings_text.specs.Answers.{IsFirst, OnFault, Repeats};
 
 use crate::faults::{KeyPath, SettingsError, SettingsFault};
@@ -128,7 +128,7 @@ pub fn read_radars(alloc: Global, document: &Table) -> Result<Vec<RadarSettings>
 
 // Whether no key of an entry is unknown.
 fn entry_is_known(entry: &Value) -> bool
-    ensures { result ≡ knows radar_keys (as_table (view entry.now)) }
+    ensures { result ≡ has_known_keys radar_keys (as_table (view entry.now)) }
 {
     match entry.as_table() {
         Some(table) => has_only(&RADAR_KEYS, table),
@@ -138,7 +138,7 @@ fn entry_is_known(entry: &Value) -> bool
 
 // Whether no key of some entries is unknown.
 fn entries_are_known(entries: &[Value]) -> bool
-    ensures { result ≡ list_all (knows radar_keys) (tables_of entries.now) }
+    ensures { result ≡ list_all (has_known_keys radar_keys) (tables_of entries.now) }
 {
     entries.iter().all(|entry| entry_is_known(entry))
 }
@@ -159,9 +159,9 @@ pub fn repeated(radars: &[RadarSettings]) -> Option<(u8, u8)>
     ensures found { IfSome result (λ pair. Repeats radars.now pair.0 pair.1) }
     ensures none { IfNone result (HaveOwnSources radars.now) }
 {
-    for (place, radar) in radars.iter().enumerate() {
-        if let Some(first) = radar_of(&radars[..place], radar.sac, radar.sic) {
-            return Some((place as u8, first as u8));
+    for (index, radar) in radars.iter().enumerate() {
+        if let Some(first) = radar_of(&radars[..index], radar.sac, radar.sic) {
+            return Some((index as u8, first as u8));
         }
     }
     None

@@ -2,7 +2,7 @@
 ghost use Rattle.std.specs.Prelude.{◌≡◌, IfOk, IfErr, option_map};
 ghost use Rattle.toml.specs.Data.{as_integer, as_table, get_member};
 ghost use Rattle.toml.specs.View.{view, table_view};
-ghost use Rattle.settings_text.specs.Rules.{key_of, keys_of};
+ghost use Rattle.settings_text.specs.Rules.{key_of_rule, keys_of_rules};
 ghost use Rattle.settings_text.specs.Tables.{number_at, fault_at, Gives, faults, is_key, has_only};
 ghost use Rattle.settings_text.specs.Documents.{as_entries, tables_of};
 ghost use Rattle.settings_text.specs.Answers.{IsFirst};
@@ -60,8 +60,8 @@ fn integer_at(table: &Table, name: &str) -> Option<Option<i64>>
 
 // The number that a table gives the key of a rule.
 fn number(radar: Option<u8>, table: &Table, rule: &KeyRule) -> Result<i64, SettingsFault>
-    ensures ok { IfOk result (λ number. number_at (table_view table.now) (key_of rule.now) ≡ Ok number) }
-    ensures err { IfErr result (λ fault. fault_at radar (table_view table.now) (key_of rule.now) ≡ Some fault) }
+    ensures ok { IfOk result (λ number. number_at (table_view table.now) (key_of_rule rule.now) ≡ Ok number) }
+    ensures err { IfErr result (λ fault. fault_at radar (table_view table.now) (key_of_rule rule.now) ≡ Some fault) }
 {
     let path = KeyPath {
         radar,
@@ -91,26 +91,26 @@ pub fn numbers<const N: usize>(
     table: &Table,
     rules: &[KeyRule; N],
 ) -> Result<[i64; N], SettingsFault>
-    ensures ok { IfOk result (λ numbers. Gives (table_view table.now) (keys_of rules.now) numbers) }
-    ensures err { IfErr result (λ fault. IsFirst fault (faults radar (table_view table.now) (keys_of rules.now))) }
+    ensures ok { IfOk result (λ numbers. Gives (table_view table.now) (keys_of_rules rules.now) numbers) }
+    ensures err { IfErr result (λ fault. IsFirst fault (faults radar (table_view table.now) (keys_of_rules rules.now))) }
 {
     let mut numbers = [0; N];
-    for (place, rule) in rules.iter().enumerate() {
-        numbers[place] = number(radar, table, rule)?;
+    for (index, rule) in rules.iter().enumerate() {
+        numbers[index] = number(radar, table, rule)?;
     }
     Ok(numbers)
 }
 
 // Whether some rule's key has this name.
 fn is_key(rules: &[KeyRule], name: &str) -> bool
-    ensures { result ≡ is_key (keys_of rules.now) name.now }
+    ensures { result ≡ is_key (keys_of_rules rules.now) name.now }
 {
     rules.iter().any(|rule| rule.name.text() == name)
 }
 
 /// Whether a table has no keys but those of some rules.
 pub fn has_only(rules: &[KeyRule], table: &Table) -> bool
-    ensures { result ≡ has_only (keys_of rules.now) (table_view table.now) }
+    ensures { result ≡ has_only (keys_of_rules rules.now) (table_view table.now) }
 {
     table.keys().all(|name| is_key(rules, name.as_str()))
 }

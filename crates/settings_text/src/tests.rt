@@ -1,5 +1,4 @@
 mod faults;
-mod limits;
 mod ranges;
 mod reading;
 
@@ -12,11 +11,8 @@ const SYSTEM: &str = "[system]\nsac = 1\nsic = 99\nservice = 1\nhits = 1\n";
 const RADAR: &str =
     "[[radar]]\nsac = 1\nsic = 1\nx = 0\ny = 0\nrange_sigma = 50\nazimuth_sigma = 12\n";
 
-// The settings of a text of two parts, or their fault; None where memory is wanting.
-fn read(alloc: Global, front: &str, rest: &str) -> Option<Result<Settings, SettingsFault>> {
-    let Ok(text) = format!(in alloc; "{front}{rest}") else {
-        return None;
-    };
+// The settings of a text, or their fault; None where memory is wanting.
+fn read(alloc: Global, text: &str) -> Option<Result<Settings, SettingsFault>> {
     match read_settings(alloc, text.as_bytes()) {
         Ok(settings) => Some(Ok(settings)),
         Err(SettingsError::Fault(fault)) => Some(Err(fault)),
@@ -24,23 +20,21 @@ fn read(alloc: Global, front: &str, rest: &str) -> Option<Result<Settings, Setti
     }
 }
 
-// The fault of such a text.
-fn fault(alloc: Global, front: &str, rest: &str) -> Option<SettingsFault> {
-    match read(alloc, front, rest) {
-        Some(Err(fault)) => Some(fault),
-        _ => None,
+// What is told of the settings of a text: nothing where they have no fault.
+fn told(alloc: Global, text: &str) -> Result<String, AllocError> {
+    match read(alloc, text) {
+        Some(Ok(_)) => Ok(String::new(alloc)),
+        Some(Err(fault)) => format!(in alloc; "{fault}"),
+        None => String::from_str(alloc, "memory is wanting"),
     }
 }
 
-// A radar's entry of an inline array.
-fn entry(alloc: Global, sic: u8) -> Result<String, AllocError> {
-    let mut text = String::from_str(
-        alloc,
-        "{ sac = 1, x = 0, y = 0, range_sigma = 50, azimuth_sigma = 12, sic = ",
-    )?;
-    let number = format!(in alloc; "{sic}")?;
-    text.push_str(number.as_str())?;
-    text.push_str(" }")?;
+// The parts of a text in one.
+fn joined(alloc: Global, parts: &[&str]) -> Result<String, AllocError> {
+    let mut text = String::new(alloc);
+    for part in parts {
+        text.push_str(part)?;
+    }
     Ok(text)
 }
 
@@ -48,22 +42,10 @@ fn entry(alloc: Global, sic: u8) -> Result<String, AllocError> {
 fn entries(alloc: Global, count: u8, more: &str) -> Result<String, AllocError> {
     let mut text = String::from_str(alloc, "radar = [\n")?;
     for sic in 0..count {
-        let entry = entry(alloc, sic)?;
+        let entry = format!(in alloc; "{{ sic = {sic}, sac = 1, x = 0, y = 0, range_sigma = 50, azimuth_sigma = 12 }},\n")?;
         text.push_str(entry.as_str())?;
-        text.push_str(",\n")?;
     }
     text.push_str(more)?;
     text.push_str("]\n")?;
     Ok(text)
-}
-
-fn radar_key(radar: u8, key: u8) -> KeyPath {
-    KeyPath {
-        radar: Some(radar),
-        key,
-    }
-}
-
-fn system_key(key: u8) -> KeyPath {
-    KeyPath { radar: None, key }
 }

@@ -1,123 +1,187 @@
-use super::{RADAR, SYSTEM, entries, fault, radar_key, system_key};
-use crate::SettingsFault;
-use std::alloc::{AllocError, Global};
+use super::{RADAR, SYSTEM, entries, joined, read, told};
+use crate::{SETTINGS_LIMIT, SettingsError, SettingsFault, read_settings};
+use std::alloc::AllocError;
 
-// The text of a fault, which is empty where there is none.
-fn told(alloc: Global, front: &str, rest: &str) -> Result<String, AllocError> {
-    match fault(alloc, front, rest) {
-        Some(fault) => format!(in alloc; "{fault}"),
-        None => Ok(String::new(alloc)),
-    }
-}
+const SECOND: &str =
+    "[[radar]]\nsac = 1\nsic = 2\nx = 0\ny = 0\nrange_sigma = 50\nazimuth_sigma = 12\n";
+
+// The parts of a text, and what is told of it.
+const FAULTS: [(&[&str], &str); 32] = [
+    (&[SYSTEM, RADAR], ""),
+    // no document
+    (&[SYSTEM, "="], "settings: not a document"),
+    // an integer that no document can hold makes it none, wherever it stands
+    (
+        &["large = 9_223_372_036_854_775_808\n", SYSTEM, RADAR],
+        "settings: not a document",
+    ),
+    (
+        &["large = -9_223_372_036_854_775_809\n", SYSTEM, RADAR],
+        "settings: not a document",
+    ),
+    (
+        &[
+            "large = [{ larger = 0xFFFF_FFFF_FFFF_FFFF }]\n",
+            SYSTEM,
+            RADAR,
+        ],
+        "settings: not a document",
+    ),
+    (
+        &["[system]\nhits = 9_223_372_036_854_775_808\n", RADAR],
+        "settings: not a document",
+    ),
+    (
+        &[SYSTEM, RADAR, "height = 9_223_372_036_854_775_808\n"],
+        "settings: not a document",
+    ),
+    // the greatest and the least that one holds are read, and are out of range
+    (
+        &["[system]\nsac = 9_223_372_036_854_775_807\n", RADAR],
+        "settings: range of key 1",
+    ),
+    (
+        &[SYSTEM, "[[radar]]\nsac = -9_223_372_036_854_775_808\n"],
+        "settings: range of key 8 of radar 0",
+    ),
+    // the system's keys come first, whatever else is wrong and wherever they stand
+    (&["extra = 1\n"], "settings: missing key 1"),
+    (
+        &["extra = 1\n", "radar = 1\n"],
+        "settings: missing key 1",
+    ),
+    (&["extra = 1\n", RADAR], "settings: missing key 1"),
+    (
+        &["system = 1\n", "radar = 1\n"],
+        "settings: kind of key 1",
+    ),
+    (
+        &["[[system]]\nsac = 1\n", RADAR],
+        "settings: kind of key 1",
+    ),
+    (
+        &["radar = 1\n", "[system]\nsac = 1\nsic = 256\n"],
+        "settings: range of key 2",
+    ),
+    (
+        &["[system]\nsac = 1\nsic = 99\nhits = 1\n", RADAR],
+        "settings: missing key 3",
+    ),
+    (
+        &["[system]\nsac = 1\nsic = 99\nservice = 1\nhits = 9\n", RADAR],
+        "settings: range of key 5",
+    ),
+    // then the radars' keys, of which the first stands for the whole too
+    (
+        &[SYSTEM, "extra = 1\n"],
+        "settings: missing key 8 of radar 0",
+    ),
+    (
+        &["extra = 1\nradar = []\n", SYSTEM],
+        "settings: missing key 8 of radar 0",
+    ),
+    (&["[radar]\n", SYSTEM], "settings: kind of key 8 of radar 0"),
+    (&["radar = 1\n", SYSTEM], "settings: kind of key 8 of radar 0"),
+    (
+        &["radar = [1]\n", SYSTEM],
+        "settings: kind of key 8 of radar 0",
+    ),
+    (
+        &[SYSTEM, "[[radar]]\nsac = 1\nsic = 1.5\n"],
+        "settings: kind of key 9 of radar 0",
+    ),
+    (
+        &[SYSTEM, "[[radar]]\nsac = 1\nsic = 1\nextra = 1\n"],
+        "settings: missing key 10 of radar 0",
+    ),
+    (
+        &[SYSTEM, RADAR, RADAR, SECOND, "north = -1\n"],
+        "settings: range of key 13 of radar 2",
+    ),
+    // then a key that isn't known, at any level
+    (
+        &["[system]\nsac = 1\nsic = 99\nservice = 1\nextra = 1\n", RADAR],
+        "settings: unknown key",
+    ),
+    (
+        &["radars = 1\n", SYSTEM, RADAR],
+        "settings: unknown key",
+    ),
+    (
+        &[SYSTEM, RADAR, "window = 32\n"],
+        "settings: unknown key",
+    ),
+    (
+        &[SYSTEM, RADAR, RADAR, "extra = 1\n"],
+        "settings: unknown key",
+    ),
+    // then the least radar that repeats an earlier one, though another repeats the first of all
+    (
+        &[SYSTEM, RADAR, RADAR],
+        "settings: radar 1 repeats radar 0",
+    ),
+    (
+        &[SYSTEM, RADAR, SECOND, SECOND, RADAR],
+        "settings: radar 2 repeats radar 1",
+    ),
+    (&[SYSTEM, RADAR, SECOND], ""),
+];
 
 #[test]
-fn tells_faults(rt: HostRuntime) -> Result<(), AllocError> {
-    let alloc = rt.alloc();
-    let no_service = "[system]\nsac = 1\nsic = 99\nhits = 1\n";
-    let text = told(alloc, no_service, RADAR)?;
-    assert!(rt; text.as_str() == "settings: missing key 3");
-    let nine_hits = "[system]\nsac = 1\nsic = 99\nservice = 1\nhits = 9\n";
-    let text = told(alloc, nine_hits, RADAR)?;
-    assert!(rt; text.as_str() == "settings: range of key 5");
-    let twice = format!(in alloc; "{RADAR}{RADAR}")?;
-    let text = told(alloc, SYSTEM, twice.as_str())?;
-    assert!(rt; text.as_str() == "settings: radar 1 repeats radar 0");
-    let text = told(alloc, SYSTEM, "[[radar]]\nsac = 1\nsic = 1.5\n")?;
-    assert!(rt; text.as_str() == "settings: kind of key 9 of radar 0");
-    let text = told(alloc, SYSTEM, "=")?;
-    assert!(rt; text.as_str() == "settings: not a document");
-    let text = told(alloc, "extra = 1\n", "")?;
-    assert!(rt; text.as_str() == "settings: missing key 1");
-    let extra = format!(in alloc; "{RADAR}extra = 1\n")?;
-    let text = told(alloc, SYSTEM, extra.as_str())?;
-    assert!(rt; text.as_str() == "settings: unknown key");
+fn tells_the_first_fault(rt: HostRuntime) -> Result<(), AllocError> {
+    for (parts, want) in FAULTS {
+        let text = joined(rt.alloc(), parts)?;
+        let got = told(rt.alloc(), text.as_str())?;
+        assert!(rt; got.as_str() == want);
+    }
     Ok(())
 }
 
-// The system's keys come first, whatever is wrong behind them and wherever they stand.
-#[test]
-fn tells_the_system_first(rt: HostRuntime) {
-    let alloc = rt.alloc();
-    assert!(rt;
-        fault(alloc, "extra = 1\n", "radar = 1\n") == Some(SettingsFault::Missing(system_key(1)))
-    );
-    assert!(rt;
-        fault(alloc, "system = 1\n", "radar = 1\n") == Some(SettingsFault::Kind(system_key(1)))
-    );
-    assert!(rt;
-        fault(alloc, "[[system]]\nsac = 1\n", RADAR) == Some(SettingsFault::Kind(system_key(1)))
-    );
-    assert!(rt;
-        fault(alloc, "radar = 1\n", "[system]\nsac = 1\nsic = 256\n")
-            == Some(SettingsFault::Range(system_key(2)))
-    );
-    assert!(rt; fault(alloc, "extra = 1\n", RADAR) == Some(SettingsFault::Missing(system_key(1))));
-}
-
-// Then the radars' keys, of which the first stands for the whole too.
-#[test]
-fn tells_the_radars_next(rt: HostRuntime) {
-    let alloc = rt.alloc();
-    let missing = Some(SettingsFault::Missing(radar_key(0, 8)));
-    assert!(rt; fault(alloc, SYSTEM, "extra = 1\n") == missing);
-    assert!(rt; fault(alloc, "extra = 1\nradar = []\n", SYSTEM) == missing);
-    let kind = Some(SettingsFault::Kind(radar_key(0, 8)));
-    assert!(rt; fault(alloc, "[radar]\n", SYSTEM) == kind);
-    assert!(rt; fault(alloc, "radar = 1\n", SYSTEM) == kind);
-    assert!(rt; fault(alloc, "radar = [1]\n", SYSTEM) == kind);
-    assert!(rt;
-        fault(alloc, SYSTEM, "[[radar]]\nsac = 1\nsic = 1\nextra = 1\n")
-            == Some(SettingsFault::Missing(radar_key(0, 10)))
-    );
-}
-
-// A 33rd radar is out of range, whatever its entry is; what is wrong with the first 32 comes before.
-#[test]
-fn tells_a_33rd_radar(rt: HostRuntime) -> Result<(), AllocError> {
-    let alloc = rt.alloc();
-    let range = Some(SettingsFault::Range(radar_key(32, 8)));
-    for more in [
-        "1",
-        "[]",
-        "{}",
-        "{ sac = 256 }",
-        "{ extra = 1 }",
+// How many radars there are, the entries after them, and what is told. A 33rd radar is out of
+// range, whatever its entry is; what is wrong with the first 32 comes before.
+const MANY: [(u8, &str, &str); 10] = [
+    (32, "", ""),
+    (33, "", "settings: range of key 8 of radar 32"),
+    (32, "1", "settings: range of key 8 of radar 32"),
+    (32, "[]", "settings: range of key 8 of radar 32"),
+    (32, "{}", "settings: range of key 8 of radar 32"),
+    (32, "{ sac = 256 }", "settings: range of key 8 of radar 32"),
+    (32, "{ extra = 1 }", "settings: range of key 8 of radar 32"),
+    (
+        32,
         "1, 1, { sac = true }",
-    ] {
-        let text = entries(alloc, 32, more)?;
-        assert!(rt; fault(alloc, text.as_str(), SYSTEM) == range);
+        "settings: range of key 8 of radar 32",
+    ),
+    (31, "1, 1", "settings: kind of key 8 of radar 31"),
+    (
+        31,
+        "{ sac = 1, sic = 7, x = 0, y = 0, range_sigma = 50, azimuth_sigma = 12 }",
+        "settings: radar 31 repeats radar 7",
+    ),
+];
+
+#[test]
+fn takes_32_radars(rt: HostRuntime) -> Result<(), AllocError> {
+    for (count, more, want) in MANY {
+        let mut text = entries(rt.alloc(), count, more)?;
+        text.push_str(SYSTEM)?;
+        let got = told(rt.alloc(), text.as_str())?;
+        assert!(rt; got.as_str() == want);
     }
-    let text = entries(alloc, 31, "1, 1")?;
-    assert!(rt; fault(alloc, text.as_str(), SYSTEM) == Some(SettingsFault::Kind(radar_key(31, 8))));
     Ok(())
 }
 
-// Then a key that isn't known, at any place.
 #[test]
-fn tells_unknown_keys(rt: HostRuntime) -> Result<(), AllocError> {
+fn takes_65_536_octets_of_utf8(rt: HostRuntime) -> Result<(), AllocError> {
     let alloc = rt.alloc();
-    let unknown = Some(SettingsFault::Unknown);
-    let in_system = "[system]\nsac = 1\nsic = 99\nservice = 1\nextra = 1\n";
-    assert!(rt; fault(alloc, in_system, RADAR) == unknown);
-    let in_document = "radars = 1\n[system]\nsac = 1\nsic = 99\nservice = 1\n";
-    assert!(rt; fault(alloc, in_document, RADAR) == unknown);
-    let in_radar = format!(in alloc; "{RADAR}window = 32\n")?;
-    assert!(rt; fault(alloc, SYSTEM, in_radar.as_str()) == unknown);
-    let repeating = format!(in alloc; "{RADAR}{RADAR}extra = 1\n")?;
-    assert!(rt; fault(alloc, SYSTEM, repeating.as_str()) == unknown);
-    Ok(())
-}
-
-// Then the least radar that repeats an earlier one, though another repeats the first of all.
-#[test]
-fn tells_the_least_radar_that_repeats(rt: HostRuntime) -> Result<(), AllocError> {
-    let alloc = rt.alloc();
-    let second =
-        "[[radar]]\nsac = 1\nsic = 2\nx = 0\ny = 0\nrange_sigma = 50\nazimuth_sigma = 12\n";
-    let radars = format!(in alloc; "{RADAR}{second}{second}{RADAR}")?;
-    assert!(rt;
-        fault(alloc, SYSTEM, radars.as_str())
-            == Some(SettingsFault::Duplicate { radar: 2, first: 1 })
-    );
+    let mut text = joined(alloc, &[SYSTEM, RADAR])?;
+    for _ in text.len()..SETTINGS_LIMIT {
+        text.push_str("#")?;
+    }
+    assert!(rt; matches!(read(alloc, text.as_str()), Some(Ok(_))));
+    text.push_str("#")?;
+    assert!(rt; read(alloc, text.as_str()) == Some(Err(SettingsFault::Syntax)));
+    let no_text = read_settings(alloc, b"\xff");
+    assert!(rt; no_text == Err(SettingsError::Fault(SettingsFault::Syntax)));
     Ok(())
 }

@@ -1,5 +1,4 @@
-use super::{fault, radar_key, read, system_key};
-use crate::SettingsFault;
+use super::told;
 use std::alloc::{AllocError, Global};
 
 // Each key with its name, and the numbers just below and just above its range.
@@ -43,21 +42,26 @@ fn document(alloc: Global, changed: u8, number: i64) -> Result<String, AllocErro
     Ok(text)
 }
 
+// What is told of a document with that number at a key.
+fn told_at(alloc: Global, key: u8, number: i64) -> Result<String, AllocError> {
+    let text = document(alloc, key, number)?;
+    told(alloc, text.as_str())
+}
+
 #[test]
 fn keeps_the_ranges(rt: HostRuntime) -> Result<(), AllocError> {
     let alloc = rt.alloc();
-    for (key, _, below, above) in &ENDS {
-        let path = if *key < 8 {
-            system_key(*key)
-        } else {
-            radar_key(0, *key)
-        };
-        let text = document(alloc, *key, *below)?;
-        assert!(rt; fault(alloc, text.as_str(), "") == Some(SettingsFault::Range(path)));
-        let text = document(alloc, *key, *above)?;
-        assert!(rt; fault(alloc, text.as_str(), "") == Some(SettingsFault::Range(path)));
-        let text = document(alloc, *key, above.saturating_sub(1))?;
-        assert!(rt; matches!(read(alloc, text.as_str(), ""), Some(Ok(_))));
+    for (key, _, below, above) in ENDS {
+        let radar = if key < 8 { "" } else { " of radar 0" };
+        let range = format!(in alloc; "settings: range of key {key}{radar}")?;
+        for (number, want) in [
+            (below, range.as_str()),
+            (above.saturating_sub(1), ""),
+            (above, range.as_str()),
+        ] {
+            let got = told_at(alloc, key, number)?;
+            assert!(rt; got.as_str() == want);
+        }
     }
     Ok(())
 }

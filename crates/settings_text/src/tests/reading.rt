@@ -1,75 +1,93 @@
-use super::{RADAR, SYSTEM, entries, read};
+use super::{RADAR, SYSTEM, joined, read};
+use admission_log::Settings;
 use std::alloc::AllocError;
 
-#[test]
-fn reads_numbers_and_defaults(rt: HostRuntime) {
-    let Some(Ok(settings)) = read(rt.alloc(), SYSTEM, RADAR) else {
-        assert!(rt; false);
-        return;
-    };
-    assert!(rt; (settings.sac, settings.sic, settings.service) == (1, 99, 1));
-    assert!(rt; settings.window == 32);
-    let life = settings.life;
-    assert!(rt; (life.hits, life.keep_tentative, life.keep_confirmed) == (1, 15, 30));
+// The parts of a text with one radar, and the values of keys 1 to 7 and 8 to 19.
+const READ: [(&[&str], [i64; 7], [i64; 12]); 5] = [
+    (
+        &[SYSTEM, RADAR],
+        [1, 99, 1, 32, 1, 15, 30],
+        [1, 1, 0, 0, 0, 0, 0, 0, 0, 0, 50, 12],
+    ),
+    // a track is confirmed by three plots where nothing else is said
+    (
+        &["[system]\nsac = 1\nsic = 99\nservice = 1\n", RADAR],
+        [1, 99, 1, 32, 3, 15, 30],
+        [1, 1, 0, 0, 0, 0, 0, 0, 0, 0, 50, 12],
+    ),
+    // all keys, in no order
+    (
+        &[
+            "[[radar]]\nazimuth_sigma = 200\nrange_sigma = 1_000\ntime_bias = 1_280\n",
+            "azimuth_bias = -1_000\nrange_bias = 1_000\nrange_gain = -10_000\nnorth = 0xFFFF\n",
+            "height = -500\ny = 1_000_000\nx = -1_000_000\nsic = 3\nsac = 2\n",
+            "[system]\nkeep_confirmed = 1\nkeep_tentative = 60\nhits = 8\nwindow = 120\n",
+            "service = 7\nsic = 0\nsac = 255\n",
+        ],
+        [255, 0, 7, 120, 8, 60, 1],
+        [
+            2, 3, -1_000_000, 1_000_000, -500, 65_535, -10_000, 1_000, -1_000, 1_280, 1_000, 200,
+        ],
+    ),
+    // tables may be inline, and the radars an array of them
+    (
+        &[
+            "radar = [{ sac = 1, sic = 0, x = 0, y = 0, range_sigma = 50, azimuth_sigma = 12 }]\n",
+            "system = { sac = 1, sic = 99, service = 1, hits = 1 }\n",
+        ],
+        [1, 99, 1, 32, 1, 15, 30],
+        [1, 0, 0, 0, 0, 0, 0, 0, 0, 0, 50, 12],
+    ),
+    // and their keys dotted
+    (
+        &["system.sac = 1\nsystem.sic = 99\nsystem.service = 1\n", RADAR],
+        [1, 99, 1, 32, 3, 15, 30],
+        [1, 1, 0, 0, 0, 0, 0, 0, 0, 0, 50, 12],
+    ),
+];
+
+// The values of the keys of settings with one radar.
+fn values(settings: &Settings) -> Option<([i64; 7], [i64; 12])> {
     let [radar] = settings.radars.as_slice() else {
-        assert!(rt; false);
-        return;
+        return None;
     };
-    assert!(rt; (radar.sac, radar.sic, radar.x, radar.y) == (1, 1, 0, 0));
-    assert!(rt; (radar.height, radar.north, radar.range_gain) == (0, 0, 0));
-    assert!(rt; (radar.range_bias, radar.azimuth_bias, radar.time_bias) == (0, 0, 0));
-    assert!(rt; (radar.range_sigma, radar.azimuth_sigma) == (50, 12));
-}
-
-#[test]
-fn confirms_by_three_plots_else(rt: HostRuntime) {
-    let no_hits = "[system]\nsac = 1\nsic = 99\nservice = 1\n";
-    let Some(Ok(settings)) = read(rt.alloc(), no_hits, RADAR) else {
-        assert!(rt; false);
-        return;
-    };
-    assert!(rt; settings.life.hits == 3);
-}
-
-#[test]
-fn reads_all_keys(rt: HostRuntime) {
-    let system =
-        "[system]\nsac = 255\nsic = 0\nservice = 7\nwindow = 120\nhits = 8\nkeep_tentative = 60\nkeep_confirmed = 1\n";
-    let radar =
-        "[[radar]]\nsac = 2\nsic = 3\nx = -1_000_000\ny = 1_000_000\nheight = -500\nnorth = 0xFFFF\nrange_gain = -10_000\nrange_bias = 1_000\nazimuth_bias = -1_000\ntime_bias = 1_280\nrange_sigma = 1_000\nazimuth_sigma = 200\n";
-    let Some(Ok(settings)) = read(rt.alloc(), radar, system) else {
-        assert!(rt; false);
-        return;
-    };
-    assert!(rt; (settings.sac, settings.sic, settings.service) == (255, 0, 7));
-    assert!(rt; settings.window == 120);
     let life = settings.life;
-    assert!(rt; (life.hits, life.keep_tentative, life.keep_confirmed) == (8, 60, 1));
-    let [radar] = settings.radars.as_slice() else {
-        assert!(rt; false);
-        return;
-    };
-    assert!(rt; (radar.sac, radar.sic, radar.x, radar.y) == (2, 3, -1_000_000, 1_000_000));
-    assert!(rt; (radar.height, radar.north, radar.range_gain) == (-500, 65_535, -10_000));
-    assert!(rt; (radar.range_bias, radar.azimuth_bias, radar.time_bias) == (1_000, -1_000, 1_280));
-    assert!(rt; (radar.range_sigma, radar.azimuth_sigma) == (1_000, 200));
+    Some((
+        [
+            i64::from(settings.sac),
+            i64::from(settings.sic),
+            i64::from(settings.service),
+            i64::from(settings.window),
+            i64::from(life.hits),
+            i64::from(life.keep_tentative),
+            i64::from(life.keep_confirmed),
+        ],
+        [
+            i64::from(radar.sac),
+            i64::from(radar.sic),
+            i64::from(radar.x),
+            i64::from(radar.y),
+            i64::from(radar.height),
+            i64::from(radar.north),
+            i64::from(radar.range_gain),
+            i64::from(radar.range_bias),
+            i64::from(radar.azimuth_bias),
+            i64::from(radar.time_bias),
+            i64::from(radar.range_sigma),
+            i64::from(radar.azimuth_sigma),
+        ],
+    ))
 }
 
-// The radars may be written as an inline array too.
 #[test]
-fn reads_inline_tables(rt: HostRuntime) -> Result<(), AllocError> {
-    let alloc = rt.alloc();
-    let tables =
-        "[[radar]]\nsac = 1\nsic = 0\nx = 0\ny = 0\nrange_sigma = 50\nazimuth_sigma = 12\n";
-    let inline = entries(alloc, 1, "")?;
-    let Some(Ok(settings)) = read(alloc, inline.as_str(), SYSTEM) else {
-        assert!(rt; false);
-        return Ok(());
-    };
-    let Some(Ok(same)) = read(alloc, SYSTEM, tables) else {
-        assert!(rt; false);
-        return Ok(());
-    };
-    assert!(rt; settings == same);
+fn reads_numbers_and_defaults(rt: HostRuntime) -> Result<(), AllocError> {
+    for (parts, system, radar) in READ {
+        let text = joined(rt.alloc(), parts)?;
+        let got = match read(rt.alloc(), text.as_str()) {
+            Some(Ok(settings)) => values(&settings),
+            _ => None,
+        };
+        assert!(rt; got == Some((system, radar)));
+    }
     Ok(())
 }

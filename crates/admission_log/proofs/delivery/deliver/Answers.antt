@@ -2,7 +2,7 @@ use Rattle.std.proofs.Common.{◌≡◌, ◌∙◌, ap, subst, [], ◌∷◌, �
 use Rattle.std.proofs.lemmas.Result.{err_from_is_err_and}
 use Rattle.asterix_frame.specs.Datagrams.{DatagramFault}
 use Rattle.asterix_frame.proofs.Datagrams.{one_list, not_both}
-use Rattle.asterix_frame.proofs.Refusals.{passes_malformed, passes_reads, passes_refuses}
+use Rattle.asterix_frame.proofs.Refusals.{passes_malformed, passes_answer, passes_refusal}
 use Rattle.admission_log.specs.declared.events.Event.{Event}
 use Rattle.admission_log.specs.declared.events.Event.TheVariants.{Deliver}
 use Rattle.admission_log.specs.Deliveries.{IsDelivery}
@@ -34,14 +34,14 @@ pub returns-in_err-add_block-clause-reads : goal.returns-in_err-add_block-clause
 returns-in_err-add_block-clause-reads c = λ contents is.
     let inv = c.loop-from.invariant in
     let p = err_from_is_err_and c.from_residual-in_err-add_block.result c.from_residual-in_err-add_block.ensures.1 in
-    rw (p.1, p.2) (passes_reads (Unit {0}) Event (IsFaultOfBlock c.in_ok-block.block) c.in_err-add_block.field-0.0 (λ e. IsDelivery c.args.settings.now c.args.last c.args.next c.args.feed contents e) c.in_err-add_block.ensures.malformed
+    rw (p.1, p.2) (passes_answer (Unit {0}) Event (IsFaultOfBlock c.in_ok-block.block) c.in_err-add_block.field-0.0 (λ e. IsDelivery c.args.settings.now c.args.last c.args.next c.args.feed contents e) c.in_err-add_block.ensures.malformed
     (λ m h. not_both c.args.datagram.now contents _ _ is (records_fault c.args.settings.now c.args.last c.args.next c.args.datagram.now c.loop-from.from c.loop-from.delivery inv.0 c.in_ok-block.block m inv.1 c.in_ok-block.ensures.found h)))
 
 pub returns-in_err-add_block-clause-refuses : goal.returns-in_err-add_block-clause-refuses
 returns-in_err-add_block-clause-refuses c = λ m other.
     let inv = c.loop-from.invariant in
     let p = err_from_is_err_and c.from_residual-in_err-add_block.result c.from_residual-in_err-add_block.ensures.1 in
-    rw (p.1, p.2) (passes_refuses (Unit {0}) Event (IsFaultOfBlock c.in_ok-block.block) c.in_err-add_block.field-0.0 (λ x. x ≡ m) c.in_err-add_block.ensures.malformed
+    rw (p.1, p.2) (passes_refusal (Unit {0}) Event (IsFaultOfBlock c.in_ok-block.block) c.in_err-add_block.field-0.0 (λ x. x ≡ m) c.in_err-add_block.ensures.malformed
     (λ x h. same_malformed c.args.datagram.now x m (records_fault c.args.settings.now c.args.last c.args.next c.args.datagram.now c.loop-from.from c.loop-from.delivery inv.0 c.in_ok-block.block x inv.1 c.in_ok-block.ensures.found h) other))
 
 pub loop-from-preserved : goal.loop-from-preserved

@@ -2,7 +2,7 @@ use Rattle.std.proofs.Common.{◌≡◌, ◌∙◌, ◌≤◌, ℤ, pos, negsuc,
 use Rattle.std.specs.Prelude.{FitsSigned, unsigned_abs}
 use Rattle.std.proofs.lemmas.Int.{to_z-of_z, ints}
 use Rattle.settings_text.specs.Keys.{radar_keys}
-use Rattle.settings_text.proofs.Ranges.{blank, range_at, by_place}
+use Rattle.settings_text.proofs.Ranges.{blank, range_at, by_index}
 use Rattle.settings_text.proofs.radars.radar_settings.Goals as goal
 
 -- a number that fits stays itself when it is put into a field
@@ -110,4 +110,4 @@ returns c =
     ∷ c.to_u16-2.ensures i
     ∷ c.to_u16-3.ensures i
     ∷ [])
-    ∙ sym (by_place 12 c.args.numbers.now c.told-numbers)
+    ∙ sym (by_index 12 c.args.numbers.now c.told-numbers)

@@ -1,7 +1,7 @@
 use Rattle.std.proofs.Common.{◌∙◌, [], ◌∷◌, sym, arith, lit<}
 use Rattle.std.proofs.lemmas.Int.{ints}
 use Rattle.settings_text.specs.Keys.{system_keys}
-use Rattle.settings_text.proofs.Ranges.{blank, range_at, by_place}
+use Rattle.settings_text.proofs.Ranges.{blank, range_at, by_index}
 use Rattle.settings_text.proofs.system.settings_of.Goals as goal
 
 pub to_u8-requires : goal.to_u8-requires
@@ -49,4 +49,4 @@ returns-clause-numbers c =
     ∷ c.to_u8-2.ensures i
     ∷ c.to_u8-3.ensures i
     ∷ [])
-    ∙ sym (by_place 7 c.args.numbers.now c.told-numbers)
+    ∙ sym (by_index 7 c.args.numbers.now c.told-numbers)

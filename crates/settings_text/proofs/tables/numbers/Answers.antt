@@ -7,11 +7,11 @@ use Rattle.settings_text.proofs.tables.numbers.Goals as goal
 
 pub returns-in_err-numbers-clause-err : goal.returns-in_err-numbers-clause-err
 returns-in_err-numbers-clause-err g c =
-    let first = first_fault c.args.radar (table_view c.args.table.now) c.args.rules.now c.loop-place.numbers c.loop-place.place _ _ (omega (arith, c.loop-place-test.true, c.told-rules)) c.loop-place.invariant.given c.in_err-numbers.ensures.err in
+    let first = first_fault c.args.radar (table_view c.args.table.now) c.args.rules.now c.loop-index.numbers c.loop-index.index _ _ (omega (arith, c.loop-index-test.true, c.told-rules)) c.loop-index.invariant.given c.in_err-numbers.ensures.err in
     search rules
 
-pub loop-place-preserved : goal.loop-place-preserved
-loop-place-preserved g c =
-    let more = gives_more (table_view c.args.table.now) c.args.rules.now c.loop-place.numbers c.loop-place.place _ _ (omega (arith, c.loop-place-test.true, c.told-rules)) (omega (arith, c.loop-place-test.true, c.loop-place.invariant.long)) c.loop-place.invariant.given c.in_ok-numbers.ensures.ok in
+pub loop-index-preserved : goal.loop-index-preserved
+loop-index-preserved g c =
+    let more = gives_more (table_view c.args.table.now) c.args.rules.now c.loop-index.numbers c.loop-index.index _ _ (omega (arith, c.loop-index-test.true, c.told-rules)) (omega (arith, c.loop-index-test.true, c.loop-index.invariant.long)) c.loop-index.invariant.given c.in_ok-numbers.ensures.ok in
     let fits : FitsSigned w64 c.in_ok-numbers.field-0 = search rules in
     rw (to_z-of_z w64 c.in_ok-numbers.field-0 fits) (record { long = search rules; given = more })

@@ -1,6 +1,6 @@
 use Rattle.settings_text.proofs.SomeAnswer.{some_answer}
 use Rattle.settings_text.proofs.OnlyAnswer.{only_answer}
-use Rattle.settings_text.proofs.laws.one_answer.Goals as goal
+use Rattle.settings_text.proofs.laws.one_settings_answer.Goals as goal
 
 pub returns : goal.returns
 returns c octets =
