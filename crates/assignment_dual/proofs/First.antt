@@ -48,7 +48,7 @@ tail_back row rows (Some s) ys g p =
     let b : AllGate rows ys × Misses s ys = back_gates s rows ys p.gates in
     (record { gates = (g, b.0); once = (b.1, p.once) }, rest_cost s rows ys b.1)
 
-le_cases : (a b : ℕ) → a ≤ b → (a < b) ⊎ (a ≡ b)
+pub le_cases : (a b : ℕ) → a ≤ b → (a < b) ⊎ (a ≡ b)
 le_cases a b h = elim (cases_order a b) [ inl e ↦ inr e | inr o ↦ elim o [ inl l ↦ inl l | inr g ↦ absurd (omega (arith, h, g)) ] ]
 
 entry_order : (x y : Option ℕ) → EntryBefore x y ⊎ ((x ≡ y) ⊎ EntryBefore y x)

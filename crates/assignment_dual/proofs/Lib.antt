@@ -25,3 +25,4 @@ pub mod Unique
 pub mod Renumbering
 pub mod Parts
 pub mod Restricting
+pub mod OnePlot

@@ -21,6 +21,7 @@ mod place;
 mod prices;
 mod raise;
 mod search;
+mod single;
 mod solving;
 #[cfg(test)]
 mod tests;

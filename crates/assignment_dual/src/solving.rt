@@ -13,6 +13,7 @@ use crate::graph::Graph;
 use crate::place::settle_all;
 use crate::prices::{ALONE, Prices};
 use crate::search::Node;
+use crate::single::solve_single;
 use crate::tie::first_pairing;
 use crate::{Costs, Solved};
 use std::alloc::Global;
@@ -24,7 +25,7 @@ fn first_prices(alloc: Global, plots: usize, count: usize) -> Result<Vec<u32>, N
     ensures plots { IfOk result (λ prices. (v : ℕ) → v < plots → get_or prices.items v 0 ≡ 0) }
     ensures tracks { IfOk result (λ prices. (v : ℕ) → plots ≤ v → v < count → get_or prices.items v 0 ≡ MISS) }
 {
-    let mut prices = Vec::new(alloc);
+    let mut prices = Vec::with_capacity(alloc, count)?;
     for vertex in 0..count {
         prices.push(if vertex < plots { 0 } else { ALONE })?;
     }
@@ -36,7 +37,7 @@ fn first_mates(alloc: Global, count: usize) -> Result<Vec<usize>, NoMemory>
     ensures count { IfOk result (λ mates. length mates.items ≡ count) }
     ensures alone { IfOk result (λ mates. (v : ℕ) → v < count → get_or mates.items v 0 ≡ v) }
 {
-    let mut mates = Vec::new(alloc);
+    let mut mates = Vec::with_capacity(alloc, count)?;
     for vertex in 0..count {
         mates.push(vertex)?;
     }
@@ -47,7 +48,7 @@ fn first_mates(alloc: Global, count: usize) -> Result<Vec<usize>, NoMemory>
 fn plot_prices(alloc: Global, prices: &[u32]) -> Result<Vec<i64>, NoMemory>
     ensures { IfOk result (λ us. us.items ≡ map pos prices.now) }
 {
-    let mut us = Vec::new(alloc);
+    let mut us = Vec::with_capacity(alloc, prices.len())?;
     for price in prices {
         us.push(i64::from(*price))?;
     }
@@ -58,7 +59,7 @@ fn plot_prices(alloc: Global, prices: &[u32]) -> Result<Vec<i64>, NoMemory>
 fn track_prices(alloc: Global, prices: &[u32]) -> Result<Vec<i64>, NoMemory>
     ensures { IfOk result (λ vs. vs.items ≡ map (λ q. pos q -ℤ pos MISS) prices.now) }
 {
-    let mut vs = Vec::new(alloc);
+    let mut vs = Vec::with_capacity(alloc, prices.len())?;
     for price in prices {
         vs.push(i64::from(*price) - i64::from(ALONE))?;
     }
@@ -121,6 +122,16 @@ pub fn solve(alloc: Global, costs: &Costs) -> Result<Solved, NoMemory>
     ensures proves { IfOk result (λ s. Proves costs.now s.pairing s.u s.v) }
     ensures tracks { IfOk result (λ s. All (λ x. IfSome x (λ t. t < costs.now.tracks)) s.pairing) }
 {
+    if costs.plots == 1 {
+        return solve_single(alloc, costs);
+    }
+    solve_many(alloc, costs)
+}
+
+/// The same, for any number of plots.
+fn solve_many(alloc: Global, costs: &Costs) -> Result<Solved, NoMemory>
+    ensures { IfOk result (λ s. IsSolvedBy costs.now s.pairing s.u s.v s.cost) }
+{
     let plots = costs.plots as usize;
     let tracks = costs.tracks as usize;
     let graph = graph_of(alloc, costs)?;
@@ -128,7 +139,7 @@ pub fn solve(alloc: Global, costs: &Costs) -> Result<Solved, NoMemory>
     let mut mates = first_mates(alloc, plots + tracks)?;
     let mut seen = vec![in alloc; false; plots + tracks]?;
     let mut gone = vec![in alloc; false; plots + tracks]?;
-    let mut tree = Vec::new(alloc);
+    let mut tree = Vec::with_capacity(alloc, plots + tracks)?;
     answer(
         alloc,
         &graph,

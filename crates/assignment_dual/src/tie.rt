@@ -125,7 +125,7 @@ pub fn first_pairing(
     requires here { (v : ℕ) → v < graph.now.plots → get_or gone.old v false ≡ false }
     ensures { IfOk result (λ pairing. (tracks : ℕ) (rows : List Row) → ShowsRest graph.now (length prices.old) tracks gone.old 0 rows → IsLeast rows pairing.items) }
 {
-    let mut pairing = Vec::new(alloc);
+    let mut pairing = Vec::with_capacity(alloc, graph.plots)?;
     let mut tight = Vec::new(alloc);
     for p in 0..graph.plots {
         tight.clear();

@@ -7,7 +7,7 @@ use Rattle.assignment_dual.proofs.Prefixes.{choosing_first, choosing_next, chose
 use Rattle.assignment_dual.proofs.tie.first_pairing.Goals as goal
 
 pub loop-p-init : goal.loop-p-init
-loop-p-init c = rw c.new-pairing.ensures.items (choosing_first c.requires.resting c.requires.here, c.requires.none_seen)
+loop-p-init c = rw c.in_ok-pairing.ensures.items (choosing_first c.requires.resting c.requires.here, c.requires.none_seen)
 
 pub loop-p-preserved : goal.loop-p-preserved
 loop-p-preserved c =
