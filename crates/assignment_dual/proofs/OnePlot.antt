@@ -6,7 +6,8 @@ use Rattle.std.proofs.lemmas.Bool.{cases_eq}
 use Rattle.std.proofs.lemmas.Int.{ints}
 use Rattle.std.proofs.lemmas.List.{length-replicate}
 use Rattle.std.proofs.lemmas.List.Elements.{All-cons, All-nil, All-replicate, All-from_get_or}
-use Rattle.assignment_dual.specs.Pairings.{Row, MISS, gate_cost, Once, Gates, IsPairing, entry_cost, cost, EntryBefore, NotAfter, ComesFirst, IsLeast}
+use Rattle.trk_base.specs.Limits.{miss_cost}
+use Rattle.assignment_dual.specs.Pairings.{Row, paired_cost, Once, Gates, IsPairing, entry_cost, cost, EntryBefore, NotAfter, ComesFirst, IsLeast}
 use Rattle.assignment_dual.specs.Problems.{Edge, Problem, IsProblem, EdgeBefore, edge_at, row_of, rows_of, price_at, total, Proves, IsSolvedBy}
 use Rattle.assignment_dual.specs.Single.{IsNearest}
 use Rattle.assignment_dual.proofs.Building.{row_found}
@@ -80,7 +81,7 @@ entry_gates p q one None least h = (tt, sym (h.none refl))
 entry_gates p q one (Some t) least h =
     let k = h.some t refl in
     let e : row_of p.edges 0 t ≡ Some least = subst (λ (s : ℕ). row_of p.edges 0 s ≡ Some least) k.2 (found_at p q one k.0 k.1 ∙ ap Some k.3) in
-    (ap (λ (o : Option ℕ). is_some o) e, ap gate_cost e)
+    (ap (λ (o : Option ℕ). is_some o) e, ap paired_cost e)
 
 -- any entry costs as much, and one that costs the same doesn't come before
 record IsBeaten (row : Row) (x : Option ℕ) (least : ℕ) (y : Option ℕ) : Type 0 where
@@ -91,11 +92,11 @@ edge_with edges plot track c e = row_tells (λ a b d. (k : ℕ) × (k < length e
 
 beaten_by : (p : Problem) → IsProblem p → (x : Option ℕ) (least : ℕ) → IsNearest p.edges (length p.edges) x least → (y : Option ℕ) → Gates (row_of p.edges 0) y → IsBeaten (row_of p.edges 0) x least y
 beaten_by p q None least h None g = record { beaten = inr (h.none refl, inr refl) }
-beaten_by p q (Some s) least h None g = record { beaten = elim (le_cases least MISS h.most) [ inl l ↦ inl l | inr e ↦ inr (e, inl tt) ] }
+beaten_by p q (Some s) least h None g = record { beaten = elim (le_cases least miss_cost h.most) [ inl l ↦ inl l | inr e ↦ inr (e, inl tt) ] }
 beaten_by p q x least h (Some t) g =
     let c = is_some_of (row_of p.edges 0 t) g in
     let k = edge_with p.edges 0 t c.0 c.1 in
-    let w : entry_cost (row_of p.edges 0) (Some t) ≡ c.0 = ap gate_cost c.1 in
+    let w : entry_cost (row_of p.edges 0) (Some t) ≡ c.0 = ap paired_cost c.1 in
     let le : least ≤ c.0 = omega (arith, h.lowest k.0 k.1, k.3) in
     record {
       beaten = elim (le_cases least c.0 le) [
@@ -104,7 +105,7 @@ beaten_by p q x least h (Some t) g =
       ];
     }
   where
-    order : (x : Option ℕ) → least ≤ 4096 → (x ≡ None → least ≡ MISS) → ((s : ℕ) → x ≡ Some s → s ≤ t) → EntryBefore x (Some t) ⊎ (x ≡ Some t)
+    order : (x : Option ℕ) → least ≤ 4096 → (x ≡ None → least ≡ miss_cost) → ((s : ℕ) → x ≡ Some s → s ≤ t) → EntryBefore x (Some t) ⊎ (x ≡ Some t)
     order None small none first = absurd (omega (arith, small, none refl))
     order (Some s) small none first = elim (le_cases s t (first s refl)) [ inl l ↦ inl l | inr e ↦ inr (ap Some e) ]
 
@@ -142,7 +143,7 @@ single_proves p q one x least h pairs worth = record {
   pairing = pairs;
   plot_prices = sym one;
   track_prices = length-replicate p.tracks (pos 0);
-  below_miss = All-cons (λ u. u ≤ℤ pos MISS) (pos least) [] (omega (arith, ints, h.most)) (All-nil (λ u. u ≤ℤ pos MISS));
+  below_miss = All-cons (λ u. u ≤ℤ pos miss_cost) (pos least) [] (omega (arith, ints, h.most)) (All-nil (λ u. u ≤ℤ pos miss_cost));
   below_zero = All-replicate (λ v. v ≤ℤ pos 0) p.tracks (pos 0) (omega (arith, ints));
   below_cost = All-from_get_or (λ (e : Edge). (price_at (pos least ∷ []) e.0 +ℤ price_at (replicate p.tracks (pos 0)) e.1) ≤ℤ pos e.2) p.edges (0, 0, 0) (λ i l.
       let u : price_at (pos least ∷ []) (edge_at p.edges i).0 ≡ pos least = ap (price_at (pos least ∷ [])) (plots_zero p q one i l) in

@@ -12,12 +12,12 @@
 //! equal cost needs both: it takes them out one by one.
 #![tactic(auto)]
 
+mod augmenting;
 mod build;
 mod costs;
 mod fix;
 mod graph;
 mod laws;
-mod place;
 mod prices;
 mod raise;
 mod search;

@@ -4,10 +4,9 @@ ghost use Rattle.std.specs.Prelude.{◌≡◌, length, IfOk};
 ghost use Rattle.assignment_dual.specs.Problems.{IsSolvedBy};
 ghost use Rattle.assignment_dual.specs.Single.{IsNearest};
 
-use crate::prices::ALONE;
 use crate::{Costs, Solved};
 use std::alloc::Global;
-use trk_base::{NoMemory, Sequence};
+use trk_base::{MISS_COST, NoMemory, Sequence};
 
 /// The first of the tracks that cost least, or none, and what it costs.
 fn nearest(costs: &Costs) -> (Option<u32>, u32)
@@ -15,7 +14,7 @@ fn nearest(costs: &Costs) -> (Option<u32>, u32)
     ensures { IsNearest costs.now.edges (length costs.now.edges) result.0 result.1 }
 {
     let mut entry = None;
-    let mut least = ALONE;
+    let mut least = MISS_COST;
     for (_, track, cost) in costs.edges.as_slice() {
         let cost = u32::from(*cost);
         if cost < least {
