@@ -2,18 +2,18 @@
 use Rattle.std.proofs.Common.{◌≡◌, ◌≢◌, ◌≤◌, ◌<◌, ◌⊎◌, inl, inr, ℕ, ◌+◌, length, get_or, List, arith, sym, ◌∙◌, ap, subst}
 use Rattle.std.proofs.lemmas.Bool.{cases_lt}
 use Rattle.assignment_dual.specs.declared.graph.Graph.{Graph}
-use Rattle.assignment_dual.specs.Pairings.{MISS}
-use Rattle.assignment_dual.specs.Vertices.{to_of, IsArc, IsGraph, IsPriced, AreMates, OthersPay, IsSettled}
+use Rattle.trk_base.specs.Limits.{miss_cost}
+use Rattle.assignment_dual.specs.Vertices.{to_of, IsArc, IsGraph, IsDualFeasible, AreMatched, OthersPay, IsAugmented}
 use Rattle.assignment_dual.proofs.Shifts.{priced_past}
 
 pub record Adding (g : Graph) (n : ℕ) (qs ms : List ℕ) (p : ℕ) : Type 0 where
-  pub priced : IsPriced g n qs
-  pub mates : AreMates g n qs ms
+  pub priced : IsDualFeasible g n qs
+  pub mates : AreMatched g n qs ms
   pub waiting : (v : ℕ) → p ≤ v → v < g.plots → (get_or ms v 0 ≡ v) × (get_or qs v 0 ≡ 0)
-  pub full : (v : ℕ) → v < n → (v < p) ⊎ (g.plots ≤ v) → get_or ms v 0 ≡ v → get_or qs v 0 ≡ MISS
+  pub full : (v : ℕ) → v < n → (v < p) ⊎ (g.plots ≤ v) → get_or ms v 0 ≡ v → get_or qs v 0 ≡ miss_cost
 
 pub at_first : {g : Graph} (n : ℕ) (qs ms : List ℕ) → IsGraph g n → length qs ≡ n → length ms ≡ n → ((v : ℕ) → v < n → get_or ms v 0 ≡ v) → ((v : ℕ) → v < g.plots → get_or qs v 0 ≡ 0)
-    → ((v : ℕ) → g.plots ≤ v → v < n → get_or qs v 0 ≡ MISS) → g.plots ≤ n → Adding g n qs ms 0
+    → ((v : ℕ) → g.plots ≤ v → v < n → get_or qs v 0 ≡ miss_cost) → g.plots ≤ n → Adding g n qs ms 0
 at_first {g} n qs ms gr l k a o f le = record {
   priced = record {
     count = l;
@@ -49,7 +49,7 @@ adding_pay {g} {n} {qs} {ms} {p} a = record {
 below_next : (v p : ℕ) → v < p + 1 → v ≢ p → v < p
 below_next v p h d = omega arith
 
-pub adding_next : {g : Graph} {n : ℕ} {qs ms new_q new_m : List ℕ} {p : ℕ} → Adding g n qs ms p → g.plots ≤ n → IsPriced g n new_q → AreMates g n new_q new_m → IsSettled n qs ms new_q new_m p → Adding g n new_q new_m (p + 1)
+pub adding_next : {g : Graph} {n : ℕ} {qs ms new_q new_m : List ℕ} {p : ℕ} → Adding g n qs ms p → g.plots ≤ n → IsDualFeasible g n new_q → AreMatched g n new_q new_m → IsAugmented n qs ms new_q new_m p → Adding g n new_q new_m (p + 1)
 adding_next {g} {n} {qs} {ms} {new_q} {new_m} {p} a le pr am st = record {
   priced = pr;
   mates = am;

@@ -6,14 +6,15 @@ use Rattle.std.proofs.lemmas.Int.{ints}
 use Rattle.std.proofs.lemmas.List.{get_or-drop}
 use Rattle.std.proofs.lemmas.List.Elements.{All-from_get_or}
 use Rattle.assignment_dual.specs.declared.graph.Graph.{Graph}
-use Rattle.assignment_dual.specs.Pairings.{Row, MISS, Gates, AllGate, IsPairing, IsLeast, cost}
+use Rattle.trk_base.specs.Limits.{miss_cost}
+use Rattle.assignment_dual.specs.Pairings.{Row, Gates, AllGate, IsPairing, IsLeast, cost}
 use Rattle.assignment_dual.specs.Problems.{Edge, Problem, IsProblem, edge_at, row_of, rows_of, price_at, total, Proves, IsSolvedBy}
-use Rattle.assignment_dual.specs.Vertices.{IsGraph, IsPriced, AreMates, AreResting}
+use Rattle.assignment_dual.specs.Vertices.{IsGraph, IsDualFeasible, AreMatched, IsOptimal}
 use Rattle.assignment_dual.specs.Search.{unseen}
 use Rattle.assignment_dual.specs.Rests.{row_at, IsGate, ShowsRest}
 use Rattle.assignment_dual.proofs.Duality.{sum-cons}
 use Rattle.assignment_dual.proofs.First.{least_cost}
-use Rattle.assignment_dual.proofs.Signed.{total-cons, row_tells, row_at_place, count_rows, length_map}
+use Rattle.assignment_dual.proofs.Signed.{total-cons, row_tells, row_at_index, count_rows, length_map}
 use Rattle.assignment_dual.proofs.Building.{row_found}
 use Rattle.assignment_dual.proofs.Choices.{HasValue, value_of, is_some_of}
 use Rattle.assignment_dual.proofs.Value.{unseen-false}
@@ -21,13 +22,13 @@ use Rattle.assignment_dual.proofs.Shifts.{false_true}
 
 -- a track's price
 abbrev pub v_of : ℕ → ℤ
-v_of q = pos q -ℤ pos MISS
+v_of q = pos q -ℤ pos miss_cost
 
 total_plots : (qs : List ℕ) → total (map pos qs) ≡ pos (sum qs)
 total_plots [] = refl
 total_plots (q ∷ qs) = omega (arith, ints, total-cons (pos q) (map pos qs), sum-cons q qs, total_plots qs)
 
-total_tracks : (qs : List ℕ) → total (map v_of qs) +ℤ pos (MISS * length qs) ≡ pos (sum qs)
+total_tracks : (qs : List ℕ) → total (map v_of qs) +ℤ pos (miss_cost * length qs) ≡ pos (sum qs)
 total_tracks [] = refl
 total_tracks (q ∷ qs) = omega (arith, ints, total-cons (v_of q) (map v_of qs), sum-cons q qs, total_tracks qs)
 
@@ -70,13 +71,13 @@ pub record Settled (p : Problem) (g : Graph) (n : ℕ) (qs ms : List ℕ) (gone 
   pub graph : IsGraph g n
   pub size : n ≡ p.plots + p.tracks
   pub plots : g.plots ≡ p.plots
-  pub resting : AreResting g n qs ms gone
+  pub resting : IsOptimal g n qs ms gone
   pub count : length gone ≡ n
   pub here : (v : ℕ) → get_or gone v false ≡ false
   pub shows : ShowsRest g n p.tracks gone 0 (rows_of p)
 
 -- all prices together are the least cost and what each track would pay alone
-pub settled_value : {p : Problem} {g : Graph} {n : ℕ} {qs ms : List ℕ} {gone : List Bool} → Settled p g n qs ms gone → (m : ℕ) × HasValue (rows_of p) m × (sum qs ≡ m + MISS * p.tracks)
+pub settled_value : {p : Problem} {g : Graph} {n : ℕ} {qs ms : List ℕ} {gone : List Bool} → Settled p g n qs ms gone → (m : ℕ) × HasValue (rows_of p) m × (sum qs ≡ m + miss_cost * p.tracks)
 settled_value {p} {g} {n} {qs} {ms} {gone} s =
     let v : (m : ℕ) × HasValue (rows_of p) m × (sum qs ≡ m + 4097 * unseen (drop g.plots gone)) = value_of s.graph s.resting s.count s.shows in
     let l : length (drop g.plots gone) ≡ length gone - g.plots = length-drop g.plots gone in
@@ -89,13 +90,13 @@ least_value v l = omega (arith, v.least _ l.pairing, least_cost l v.entries v.pa
 zero_plus : (i : ℕ) → 0 + i ≡ i
 zero_plus i = omega arith
 
-edge_below : {p : Problem} {g : Graph} {n : ℕ} {qs ms : List ℕ} {gone : List Bool} {i t c k : ℕ} → Settled p g n qs ms gone → IsGate g i t c k → i < n → get_or qs i 0 + get_or qs (g.plots + t) 0 ≤ c + MISS
+edge_below : {p : Problem} {g : Graph} {n : ℕ} {qs ms : List ℕ} {gone : List Bool} {i t c k : ℕ} → Settled p g n qs ms gone → IsGate g i t c k → i < n → get_or qs i 0 + get_or qs (g.plots + t) 0 ≤ c + miss_cost
 edge_below {p} {g} {n} {qs} {ms} {gone} {i} {t} {c} {k} s a h =
     omega (arith, s.resting.priced.arcs i k h a.arc, ap (λ (o : ℕ). get_or qs o 0) a.to, a.cost)
 
 pub answer_proves : {p : Problem} {g : Graph} {n : ℕ} {qs ms : List ℕ} {gone : List Bool} {xs : List (Option ℕ)} → Settled p g n qs ms gone → IsLeast (rows_of p) xs → Proves p xs (map pos (take p.plots qs)) (map v_of (drop p.plots qs))
 answer_proves {p} {g} {n} {qs} {ms} {gone} {xs} s l =
-    let v : (m : ℕ) × HasValue (rows_of p) m × (sum qs ≡ m + MISS * p.tracks) = settled_value s in
+    let v : (m : ℕ) × HasValue (rows_of p) m × (sum qs ≡ m + miss_cost * p.tracks) = settled_value s in
     let ql : length qs ≡ p.plots + p.tracks = s.resting.priced.count ∙ s.size in
     let lt : length (take p.plots qs) ≡ p.plots = take_length p.plots qs (omega (arith, ql)) in
     let ld : length (drop p.plots qs) ≡ p.tracks = omega (arith, length-drop p.plots qs, ql) in
@@ -109,16 +110,16 @@ answer_proves {p} {g} {n} {qs} {ms} {gone} {xs} s l =
       pairing = l.pairing;
       plot_prices = lu;
       track_prices = lv;
-      below_miss = All-from_get_or (λ u. u ≤ℤ pos MISS) us (pos 0) (λ i h. omega (arith, ints, u_at i (omega (arith, h, lu)), s.resting.priced.alone i));
+      below_miss = All-from_get_or (λ u. u ≤ℤ pos miss_cost) us (pos 0) (λ i h. omega (arith, ints, u_at i (omega (arith, h, lu)), s.resting.priced.alone i));
       below_zero = All-from_get_or (λ u. u ≤ℤ pos 0) vs (pos 0) (λ t h. omega (arith, ints, v_at t (omega (arith, h, lv)), s.resting.priced.alone (p.plots + t)));
       below_cost = All-from_get_or (λ (e : Edge). (price_at us e.0 +ℤ price_at vs e.1) ≤ℤ pos e.2) p.edges (0, 0, 0) (λ j h.
           let e : Edge = edge_at p.edges j in
           let ep : e.0 < p.plots = s.problem.plots j (0, 0, 0) h in
           let et : e.1 < p.tracks = s.problem.tracks j (0, 0, 0) h in
-          let row : row_at (rows_of p) e.0 ≡ row_of p.edges e.0 = row_at_place p e.0 ep in
+          let row : row_at (rows_of p) e.0 ≡ row_of p.edges e.0 = row_at_index p e.0 ep in
           let c : row_at (rows_of p) e.0 e.1 ≡ Some e.2 = ap (λ (r : Row). r e.1) row ∙ row_found p.edges j s.problem.rising h in
           let k : (get_or gone (g.plots + e.1) false ≡ false) × ((k : ℕ) × IsGate g (0 + e.0) e.1 e.2 k) = s.shows.has e.0 e.1 e.2 (omega (arith, ep, s.plots)) c in
-          let b : get_or qs (0 + e.0) 0 + get_or qs (g.plots + e.1) 0 ≤ e.2 + MISS = edge_below s k.1.1 (omega (arith, ep, s.size)) in
+          let b : get_or qs (0 + e.0) 0 + get_or qs (g.plots + e.1) 0 ≤ e.2 + miss_cost = edge_below s k.1.1 (omega (arith, ep, s.size)) in
           let z : get_or qs (0 + e.0) 0 ≡ get_or qs e.0 0 = ap (λ (o : ℕ). get_or qs o 0) (zero_plus e.0) in
           let y : get_or qs (g.plots + e.1) 0 ≡ get_or qs (p.plots + e.1) 0 = ap (λ (o : ℕ). get_or qs (o + e.1) 0) s.plots in
           omega (arith, ints, u_at e.0 ep, v_at e.1 et, b, z, y));
@@ -148,27 +149,27 @@ track_named p h i (Some t) g =
 pub tracks_named : {p : Problem} {xs : List (Option ℕ)} → IsProblem p → IsPairing (rows_of p) xs → All (λ x. IfSome x (λ t. t < p.tracks)) xs
 tracks_named {p} {xs} h q = All-from_get_or (λ x. IfSome x (λ t. t < p.tracks)) xs None (λ i l.
     let n : i < p.plots = omega (arith, l, gates_count (rows_of p) xs q.gates, count_rows p) in
-    track_named p h i (get_or xs i None) (subst (λ (r : Row). Gates r (get_or xs i None)) (row_at_place p i n) (gates_at (rows_of p) xs i q.gates l)))
+    track_named p h i (get_or xs i None) (subst (λ (r : Row). Gates r (get_or xs i None)) (row_at_index p i n) (gates_at (rows_of p) xs i q.gates l)))
 
 pub take_rest : (k : ℕ) (qs : List ℕ) → take (length qs - k) (drop k qs) ≡ drop k qs
 take_rest k qs = ap (λ (o : ℕ). take o (drop k qs)) (sym (length-drop k qs)) ∙ take_whole (drop k qs)
 
-pub all_resting : {g : Graph} {n : ℕ} {qs ms : List ℕ} {gone : List Bool} → IsPriced g n qs → AreMates g n qs ms → ((v : ℕ) → v < n → get_or ms v 0 ≡ v → get_or qs v 0 ≡ MISS) → ((v : ℕ) → get_or gone v false ≡ false) → AreResting g n qs ms gone
+pub all_resting : {g : Graph} {n : ℕ} {qs ms : List ℕ} {gone : List Bool} → IsDualFeasible g n qs → AreMatched g n qs ms → ((v : ℕ) → v < n → get_or ms v 0 ≡ v → get_or qs v 0 ≡ miss_cost) → ((v : ℕ) → get_or gone v false ≡ false) → IsOptimal g n qs ms gone
 all_resting pr am f z = record { priced = pr; mates = am; out = λ v h k. absurd (false_true k (z v)); full = λ v h k e. f v h e }
 
-pub answered : {g : Graph} {n : ℕ} {qs ms : List ℕ} {gone : List Bool} {xs : List (Option ℕ)} {us vs : List ℤ} {c : ℤ} → IsGraph g n → AreResting g n qs ms gone → length gone ≡ n → ((v : ℕ) → get_or gone v false ≡ false)
-    → ((tracks : ℕ) (rows : List Row) → ShowsRest g n tracks gone 0 rows → IsLeast rows xs) → us ≡ map pos (take g.plots qs) → vs ≡ map v_of (drop g.plots qs) → c ≡ pos (sum qs) -ℤ pos (MISS * (n - g.plots))
+pub answered : {g : Graph} {n : ℕ} {qs ms : List ℕ} {gone : List Bool} {xs : List (Option ℕ)} {us vs : List ℤ} {c : ℤ} → IsGraph g n → IsOptimal g n qs ms gone → length gone ≡ n → ((v : ℕ) → get_or gone v false ≡ false)
+    → ((tracks : ℕ) (rows : List Row) → ShowsRest g n tracks gone 0 rows → IsLeast rows xs) → us ≡ map pos (take g.plots qs) → vs ≡ map v_of (drop g.plots qs) → c ≡ pos (sum qs) -ℤ pos (miss_cost * (n - g.plots))
     → (p : Problem) → IsProblem p → g.plots ≡ p.plots → n ≡ p.plots + p.tracks → ShowsRest g n p.tracks gone 0 (rows_of p) → IsSolvedBy p xs us vs c
 answered {g} {n} {qs} {ms} {gone} {xs} {us} {vs} {c} gr r l z le ue ve ce p h q e sh =
     let s : Settled p g n qs ms gone = record { problem = h; graph = gr; size = e; plots = q; resting = r; count = l; here = z; shows = sh } in
     let least : IsLeast (rows_of p) xs = le p.tracks (rows_of p) sh in
-    let v : (m : ℕ) × HasValue (rows_of p) m × (sum qs ≡ m + MISS * p.tracks) = settled_value s in
+    let v : (m : ℕ) × HasValue (rows_of p) m × (sum qs ≡ m + miss_cost * p.tracks) = settled_value s in
     let t : n - g.plots ≡ p.tracks = omega (arith, e, q) in
     let us' : us ≡ map pos (take p.plots qs) = ue ∙ ap (λ (o : ℕ). map pos (take o qs)) q in
     let vs' : vs ≡ map v_of (drop p.plots qs) = ve ∙ ap (λ (o : ℕ). map v_of (drop o qs)) q in
     record {
       least = least;
-      worth = omega (arith, ints, ce, ap (λ (o : ℕ). MISS * o) t, v.2, least_value v.1 least);
+      worth = omega (arith, ints, ce, ap (λ (o : ℕ). miss_cost * o) t, v.2, least_value v.1 least);
       proves = subst (λ (o : List ℤ). Proves p xs o vs) (sym us') (subst (λ (o : List ℤ). Proves p xs (map pos (take p.plots qs)) o) (sym vs') (answer_proves s least));
       tracks = tracks_named h least.pairing;
     }

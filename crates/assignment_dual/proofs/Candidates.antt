@@ -5,8 +5,9 @@ use Rattle.std.proofs.Math.Seq.{get_or-append_seam}
 use Rattle.std.proofs.lemmas.Bool.{cases_lt}
 use Rattle.assignment_dual.specs.declared.graph.Graph.{Graph}
 use Rattle.assignment_dual.specs.declared.graph.Arc.{Arc}
-use Rattle.assignment_dual.specs.Pairings.{MISS, Row}
-use Rattle.assignment_dual.specs.Vertices.{no_arc, to_of, cost_at, IsArc, IsGraph, AreResting}
+use Rattle.trk_base.specs.Limits.{miss_cost}
+use Rattle.assignment_dual.specs.Pairings.{Row}
+use Rattle.assignment_dual.specs.Vertices.{no_arc, to_of, cost_at, IsArc, IsGraph, IsOptimal}
 use Rattle.assignment_dual.specs.Rests.{ShowsRest}
 use Rattle.assignment_dual.specs.Choices.{IsCandidate, AreCandidates, Fails, IsFixedBy}
 use Rattle.assignment_dual.proofs.Columns.{arc_read}
@@ -71,7 +72,7 @@ collected s h = record { sound = s.sound; complete = λ j c. s.complete j (omega
 
 -- the candidates before i have failed
 pub record Trying (g : Graph) (n : ℕ) (first : List Bool) (qs ms : List ℕ) (gone : List Bool) (whole : ℕ) (tight : List ℕ) (p i : ℕ) : Type 0 where
-  pub resting : AreResting g n qs ms gone
+  pub resting : IsOptimal g n qs ms gone
   pub fixed : gone ≡ set first p true
   pub failed : (j : ℕ) → j < i → Fails g n (set first p true) whole (get_or tight j 0)
 
@@ -81,7 +82,7 @@ set_back (x ∷ xs) zero b d e = ap (λ (o : Bool). o ∷ xs) (sym e)
 set_back (x ∷ xs) (suc i) b d e = ap (λ (o : List Bool). x ∷ o) (set_back xs i b d e)
 
 pub trying_next : {g : Graph} {n : ℕ} {first : List Bool} {qs ms : List ℕ} {gone : List Bool} {whole : ℕ} {tight : List ℕ} {p i : ℕ} → Trying g n first qs ms gone whole tight p i → (k t c : ℕ) → k ≡ get_or tight i 0 → t ≡ to_of g k → c ≡ cost_at g k
-    → get_or gone t false ≡ false → (mid_q mid_m new_q new_m : List ℕ) (mid new : List Bool) → mid ≡ set gone t true → AreResting g n mid_q mid_m mid → c + MISS + sum mid_q ≢ whole → new ≡ set mid t false → AreResting g n new_q new_m new
+    → get_or gone t false ≡ false → (mid_q mid_m new_q new_m : List ℕ) (mid new : List Bool) → mid ≡ set gone t true → IsOptimal g n mid_q mid_m mid → c + miss_cost + sum mid_q ≢ whole → new ≡ set mid t false → IsOptimal g n new_q new_m new
     → Trying g n first new_q new_m new whole tight p (i + 1)
 trying_next {g} {n} {first} {qs} {ms} {gone} {whole} {tight} {p} {i} s k t c ke te ce h mid_q mid_m new_q new_m mid new me mr d ne nr =
     let tj : t ≡ to_of g (get_or tight i 0) = te ∙ ap (to_of g) ke in
@@ -95,7 +96,7 @@ trying_next {g} {n} {first} {qs} {ms} {gone} {whole} {tight} {p} {i} s k t c ke 
             subst (λ (o : ℕ). Fails g n (set first p true) whole (get_or tight o 0)) (sym e) (record {
               prices = mid_q;
               mates = mid_m;
-              resting = subst (λ (o : ℕ). AreResting g n mid_q mid_m (set (set first p true) o true)) tj (subst (λ (o : List Bool). AreResting g n mid_q mid_m (set o t true)) s.fixed (subst (AreResting g n mid_q mid_m) me mr));
+              resting = subst (λ (o : ℕ). IsOptimal g n mid_q mid_m (set (set first p true) o true)) tj (subst (λ (o : List Bool). IsOptimal g n mid_q mid_m (set o t true)) s.fixed (subst (IsOptimal g n mid_q mid_m) me mr));
               other = λ z. d (omega (arith, z, ce ∙ ap (cost_at g) ke));
             })
       ];
@@ -131,18 +132,18 @@ tried {g} {n} {qs} {gone} {p} {tight} gr ca pp le i r il e =
 pub track_here : {g : Graph} {n : ℕ} {gone : List Bool} {r : Arc} {p k : ℕ} → Tried g n gone r k → p < g.plots → get_or (set gone p true) r.to false ≡ false
 track_here {g} {n} {gone} {r} {p} {k} t h = get_or-set_other gone p r.to true false (λ e. omega (arith, e, t.low, h)) ∙ t.here
 
-pub fixed_track : {g : Graph} {n p : ℕ} {qs ms now_q now_m new_q new_m : List ℕ} {gone now new : List Bool} {tight : List ℕ} → IsGraph g n → AreResting g n qs ms gone → length gone ≡ n → AreCandidates g qs gone p tight
+pub fixed_track : {g : Graph} {n p : ℕ} {qs ms now_q now_m new_q new_m : List ℕ} {gone now new : List Bool} {tight : List ℕ} → IsGraph g n → IsOptimal g n qs ms gone → length gone ≡ n → AreCandidates g qs gone p tight
     → (i t c whole : ℕ) → i < length tight → t ≡ to_of g (get_or tight i 0) → c ≡ cost_at g (get_or tight i 0) → g.plots ≤ t → whole ≡ sum qs → Trying g n gone now_q now_m now whole tight p i
-    → new ≡ set now t true → AreResting g n new_q new_m new → c + MISS + sum new_q ≡ whole
+    → new ≡ set now t true → IsOptimal g n new_q new_m new → c + miss_cost + sum new_q ≡ whole
     → (tracks : ℕ) (row : Row) (rows : List Row) → ShowsRest g n tracks gone p (row ∷ rows) → IsFixedBy g n gone new p (Some (t - g.plots)) tracks row rows
 fixed_track {g} {n} {p} {qs} {ms} {now_q} {now_m} {new_q} {new_m} {gone} {now} {new} {tight} gr r l ca i t c whole il te ce lo we tr ne nr w tracks row rows sh =
     let f : (m : ℕ) × Fixing g n tracks p qs ms gone row rows m = fixing gr r l sh in
     let e : t ≡ g.plots + (t - g.plots) = omega (arith, lo) in
     let ne' : new ≡ set (set gone p true) (g.plots + (t - g.plots)) true = ne ∙ ap (λ (o : List Bool). set o t true) tr.fixed ∙ ap (λ (o : ℕ). set (set gone p true) o true) e in
     subst (λ (o : List Bool). IsFixedBy g n gone o p (Some (t - g.plots)) tracks row rows) (sym ne')
-    (chosen_track f.1 ca il (λ j h. subst (λ (o : ℕ). Fails g n (set gone p true) o (get_or tight j 0)) we (tr.failed j h)) (sym te ∙ e) (subst (AreResting g n new_q new_m) ne' nr) (omega (arith, w, ce, we)))
+    (chosen_track f.1 ca il (λ j h. subst (λ (o : ℕ). Fails g n (set gone p true) o (get_or tight j 0)) we (tr.failed j h)) (sym te ∙ e) (subst (IsOptimal g n new_q new_m) ne' nr) (omega (arith, w, ce, we)))
 
-pub fixed_none : {g : Graph} {n p : ℕ} {qs ms now_q now_m : List ℕ} {gone now : List Bool} {tight : List ℕ} → IsGraph g n → AreResting g n qs ms gone → length gone ≡ n → AreCandidates g qs gone p tight
+pub fixed_none : {g : Graph} {n p : ℕ} {qs ms now_q now_m : List ℕ} {gone now : List Bool} {tight : List ℕ} → IsGraph g n → IsOptimal g n qs ms gone → length gone ≡ n → AreCandidates g qs gone p tight
     → (i whole : ℕ) → length tight ≤ i → whole ≡ sum qs → Trying g n gone now_q now_m now whole tight p i
     → (tracks : ℕ) (row : Row) (rows : List Row) → ShowsRest g n tracks gone p (row ∷ rows) → IsFixedBy g n gone now p None tracks row rows
 fixed_none {g} {n} {p} {qs} {ms} {now_q} {now_m} {gone} {now} {tight} gr r l ca i whole il we tr tracks row rows sh =
@@ -163,14 +164,14 @@ candidate_arc : {g : Graph} {n : ℕ} {qs : List ℕ} {gone : List Bool} {p : �
 candidate_arc gr ca h i il = gr.arcs _ _ h (ca.sound i il).arc
 
 -- the plot keeps its mate t, to which its first candidate leads
-pub fixed_pair : {g : Graph} {n p : ℕ} {qs ms new_q new_m : List ℕ} {gone new : List Bool} {tight : List ℕ} → IsGraph g n → AreResting g n qs ms gone → length gone ≡ n → AreCandidates g qs gone p tight
-    → (t : ℕ) → 0 < length tight → to_of g (get_or tight 0 0) ≡ t → p < g.plots → g.plots ≤ n → new ≡ set (set gone p true) t true → AreResting g n new_q new_m new → sum new_q + (get_or qs p 0 + get_or qs t 0) ≡ sum qs
+pub fixed_pair : {g : Graph} {n p : ℕ} {qs ms new_q new_m : List ℕ} {gone new : List Bool} {tight : List ℕ} → IsGraph g n → IsOptimal g n qs ms gone → length gone ≡ n → AreCandidates g qs gone p tight
+    → (t : ℕ) → 0 < length tight → to_of g (get_or tight 0 0) ≡ t → p < g.plots → g.plots ≤ n → new ≡ set (set gone p true) t true → IsOptimal g n new_q new_m new → sum new_q + (get_or qs p 0 + get_or qs t 0) ≡ sum qs
     → (tracks : ℕ) (row : Row) (rows : List Row) → ShowsRest g n tracks gone p (row ∷ rows) → IsFixedBy g n gone new p (Some (t - g.plots)) tracks row rows
 fixed_pair {g} {n} {p} {qs} {ms} {new_q} {new_m} {gone} {new} {tight} gr r l ca t il te pp le ne nr w tracks row rows sh =
     let f : (m : ℕ) × Fixing g n tracks p qs ms gone row rows m = fixing gr r l sh in
     let lo : g.plots ≤ t = elim (candidate_arc gr ca (omega (arith, pp, le)) 0 il).across.sides [ inl s ↦ omega (arith, te, s.1) | inr s ↦ absurd (omega (arith, s.0, pp)) ] in
     let e : t ≡ g.plots + (t - g.plots) = omega (arith, lo) in
     let ne' : new ≡ set (set gone p true) (g.plots + (t - g.plots)) true = ne ∙ ap (λ (o : ℕ). set (set gone p true) o true) e in
-    let x : get_or qs p 0 + get_or qs t 0 ≡ cost_at g (get_or tight 0 0) + MISS = ap (λ (o : ℕ). get_or qs p 0 + get_or qs o 0) (sym te) ∙ (ca.sound 0 il).exact in
+    let x : get_or qs p 0 + get_or qs t 0 ≡ cost_at g (get_or tight 0 0) + miss_cost = ap (λ (o : ℕ). get_or qs p 0 + get_or qs o 0) (sym te) ∙ (ca.sound 0 il).exact in
     subst (λ (o : List Bool). IsFixedBy g n gone o p (Some (t - g.plots)) tracks row rows) (sym ne')
-    (chosen_track f.1 ca il (λ j h. absurd (omega (arith, h))) (te ∙ e) (subst (AreResting g n new_q new_m) ne' nr) (omega (arith, w, x)))
+    (chosen_track f.1 ca il (λ j h. absurd (omega (arith, h))) (te ∙ e) (subst (IsOptimal g n new_q new_m) ne' nr) (omega (arith, w, x)))

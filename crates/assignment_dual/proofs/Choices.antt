@@ -5,9 +5,10 @@ use Rattle.std.proofs.lemmas.List.{drop-set-lt, drop-set-add, length-set, get_or
 use Rattle.std.proofs.lemmas.List.FromFn.{length-map-range_with_len, get_or-map-range_with_len}
 use Rattle.std.proofs.lemmas.Bool.{cases_eq, cases_lt, eq-eqb, ne_eqb}
 use Rattle.assignment_dual.specs.declared.graph.Graph.{Graph}
-use Rattle.assignment_dual.specs.Pairings.{Row, MISS, Gates, IsPairing, entry_cost, gate_cost, cost, EntryBefore}
+use Rattle.trk_base.specs.Limits.{miss_cost}
+use Rattle.assignment_dual.specs.Pairings.{Row, Gates, IsPairing, entry_cost, paired_cost, cost, EntryBefore}
 use Rattle.assignment_dual.specs.First.{rest}
-use Rattle.assignment_dual.specs.Vertices.{HasArc, to_of, cost_at, IsGraph, AreResting}
+use Rattle.assignment_dual.specs.Vertices.{HasArc, to_of, cost_at, IsGraph, IsOptimal}
 use Rattle.assignment_dual.specs.Search.{unseen}
 use Rattle.assignment_dual.specs.Rests.{IsGate, ShowsRest}
 use Rattle.assignment_dual.specs.Choices.{IsCandidate, AreCandidates, Fails, IsFixedBy}
@@ -31,7 +32,7 @@ pub record Read (g : Graph) (tracks : ℕ) (gone : List Bool) (p : ℕ) (qs ms :
   pub track_prices : List ℕ
   pub is : IsReadRest g.plots tracks gone p qs ms entries plot_prices track_prices
 
-pub read_rest : (g : Graph) (n tracks p : ℕ) (qs ms : List ℕ) (gone : List Bool) → AreResting g n qs ms gone → p ≤ g.plots → Read g tracks gone p qs ms
+pub read_rest : (g : Graph) (n tracks p : ℕ) (qs ms : List ℕ) (gone : List Bool) → IsOptimal g n qs ms gone → p ≤ g.plots → Read g tracks gone p qs ms
 read_rest g n tracks p qs ms gone r h =
     let xs : List (Option ℕ) = map (read_entry g.plots p ms) (range_with_len 0 (g.plots - p)) in
     let us : List ℕ = map (λ i. get_or qs (p + i) 0) (range_with_len 0 (g.plots - p)) in
@@ -66,7 +67,7 @@ pub record HasValue (rows : List Row) (m : ℕ) : Type 0 where
   pub pairing : IsPairing rows entries
   pub equal : cost rows entries ≡ m
 
-pub value_of : {g : Graph} {n tracks p : ℕ} {qs ms : List ℕ} {gone : List Bool} {rows : List Row} → IsGraph g n → AreResting g n qs ms gone → length gone ≡ n → ShowsRest g n tracks gone p rows
+pub value_of : {g : Graph} {n tracks p : ℕ} {qs ms : List ℕ} {gone : List Bool} {rows : List Row} → IsGraph g n → IsOptimal g n qs ms gone → length gone ≡ n → ShowsRest g n tracks gone p rows
     → (m : ℕ) × HasValue rows m × (sum qs ≡ m + 4097 * unseen (drop g.plots gone))
 value_of {g} {n} {tracks} {p} {qs} {ms} {gone} {rows} gr r l s =
     let rd : Read g tracks gone p qs ms = read_rest g n tracks p qs ms gone r (omega (arith, s.count)) in
@@ -82,13 +83,13 @@ one_value a b = omega (arith, a.least b.entries b.pairing, b.equal, b.least a.en
 -- the first of the two is chosen
 pub record Fixing (g : Graph) (n tracks p : ℕ) (qs ms : List ℕ) (gone : List Bool) (row : Row) (rows : List Row) (m : ℕ) : Type 0 where
   pub graph : IsGraph g n
-  pub resting : AreResting g n qs ms gone
+  pub resting : IsOptimal g n qs ms gone
   pub count : length gone ≡ n
   pub shows : ShowsRest g n tracks gone p (row ∷ rows)
   pub value : HasValue (row ∷ rows) m
   pub whole : sum qs ≡ m + 4097 * unseen (drop g.plots gone)
 
-pub fixing : {g : Graph} {n tracks p : ℕ} {qs ms : List ℕ} {gone : List Bool} {row : Row} {rows : List Row} → IsGraph g n → AreResting g n qs ms gone → length gone ≡ n → ShowsRest g n tracks gone p (row ∷ rows)
+pub fixing : {g : Graph} {n tracks p : ℕ} {qs ms : List ℕ} {gone : List Bool} {row : Row} {rows : List Row} → IsGraph g n → IsOptimal g n qs ms gone → length gone ≡ n → ShowsRest g n tracks gone p (row ∷ rows)
     → (m : ℕ) × Fixing g n tracks p qs ms gone row rows m
 fixing {g} {n} {tracks} {p} {qs} {ms} {gone} {row} {rows} gr r l s =
     let v : (m : ℕ) × HasValue (row ∷ rows) m × (sum qs ≡ m + 4097 * unseen (drop g.plots gone)) = value_of gr r l s in
@@ -111,7 +112,7 @@ left_taken gone plots s h e =
 
 -- the value with the track of the arc k taken
 pub value_taken : {g : Graph} {n tracks p : ℕ} {qs ms qs' ms' : List ℕ} {gone : List Bool} {row : Row} {rows : List Row} {m : ℕ} → Fixing g n tracks p qs ms gone row rows m → (s : ℕ) → s < tracks → get_or gone (g.plots + s) false ≡ false
-    → AreResting g n qs' ms' (set (set gone p true) (g.plots + s) true) → (v : ℕ) × HasValue (rest (Some s) rows) v × (sum qs' + 4097 ≡ v + 4097 * unseen (drop g.plots gone))
+    → IsOptimal g n qs' ms' (set (set gone p true) (g.plots + s) true) → (v : ℕ) × HasValue (rest (Some s) rows) v × (sum qs' + 4097 ≡ v + 4097 * unseen (drop g.plots gone))
 value_taken {g} {n} {tracks} {p} {qs} {ms} {qs'} {ms'} {gone} {row} {rows} {m} f s st e r =
     let pp : p < g.plots = plot_inside f.shows in
     let l1 : length (set gone p true) ≡ n = length-set gone p true ∙ f.count in
@@ -159,9 +160,9 @@ gates_some row s c e = ap is_some e
 fails_more : {g : Graph} {n tracks p : ℕ} {qs ms : List ℕ} {gone : List Bool} {row : Row} {rows : List Row} {m : ℕ} → Fixing g n tracks p qs ms gone row rows m → {s k : ℕ} → GateAt g tracks gone p row s k → Fails g n (set gone p true) (sum qs) k
     → (ys : List (Option ℕ)) → IsPairing (rest (Some s) rows) ys → m < entry_cost row (Some s) + cost (rest (Some s) rows) ys
 fails_more {g} {n} {tracks} {p} {qs} {ms} {gone} {row} {rows} {m} f {s} {k} a b ys h =
-    let r : AreResting g n b.prices b.mates (set (set gone p true) (g.plots + s) true) = subst (λ (o : ℕ). AreResting g n b.prices b.mates (set (set gone p true) o true)) a.to b.resting in
+    let r : IsOptimal g n b.prices b.mates (set (set gone p true) (g.plots + s) true) = subst (λ (o : ℕ). IsOptimal g n b.prices b.mates (set (set gone p true) o true)) a.to b.resting in
     let v : (v : ℕ) × HasValue (rest (Some s) rows) v × (sum b.prices + 4097 ≡ v + 4097 * unseen (drop g.plots gone)) = value_taken f s a.within a.here r in
-    let c : entry_cost row (Some s) ≡ cost_at g k = ap gate_cost a.costs in
+    let c : entry_cost row (Some s) ≡ cost_at g k = ap paired_cost a.costs in
     let l : m ≤ entry_cost row (Some s) + v.0 = at_least f (Some s) (gates_some row s _ a.costs) v.1 in
     let d : m ≢ entry_cost row (Some s) + v.0 = λ e. b.other (omega (arith, e, c, v.2, f.whole)) in
     omega (arith, l, d, v.1.least ys h)
@@ -169,24 +170,24 @@ fails_more {g} {n} {tracks} {p} {qs} {ms} {gone} {row} {rows} {m} f {s} {k} a b 
 plus_zero : (p : ℕ) → p + 0 ≡ p
 plus_zero p = omega arith
 
-first_tight : (row : Row) (rows : List Row) (s : ℕ) (ys : List (Option ℕ)) (us ws : List ℕ) → 0 < length us → AllTight (row ∷ rows) (Some s ∷ ys) us ws → get_or us 0 0 ≡ gate_cost (row s) + get_or ws s 0
+first_tight : (row : Row) (rows : List Row) (s : ℕ) (ys : List (Option ℕ)) (us ws : List ℕ) → 0 < length us → AllTight (row ∷ rows) (Some s ∷ ys) us ws → get_or us 0 0 ≡ paired_cost (row s) + get_or ws s 0
 first_tight row rows s ys [] ws h t = absurd (omega arith)
 first_tight row rows s ys (u ∷ us) ws h t = t.0
 
 -- an arc that isn't tight costs more
 loose_more : {g : Graph} {n tracks p : ℕ} {qs ms : List ℕ} {gone : List Bool} {row : Row} {rows : List Row} {m : ℕ} → Fixing g n tracks p qs ms gone row rows m → {s k : ℕ} → GateAt g tracks gone p row s k
-    → get_or qs p 0 + get_or qs (to_of g k) 0 ≢ cost_at g k + MISS → (ys : List (Option ℕ)) → IsPairing (rest (Some s) rows) ys → m < entry_cost row (Some s) + cost (rest (Some s) rows) ys
+    → get_or qs p 0 + get_or qs (to_of g k) 0 ≢ cost_at g k + miss_cost → (ys : List (Option ℕ)) → IsPairing (rest (Some s) rows) ys → m < entry_cost row (Some s) + cost (rest (Some s) rows) ys
 loose_more {g} {n} {tracks} {p} {qs} {ms} {gone} {row} {rows} {m} f {s} {k} a d ys h =
     let b : IsPairing (row ∷ rows) (Some s ∷ ys) × (cost (rest (Some s) rows) ys ≡ cost rows ys) = tail_back row rows (Some s) ys (gates_some row s _ a.costs) h in
     let l : m ≤ cost (row ∷ rows) (Some s ∷ ys) = f.value.least (Some s ∷ ys) b.0 in
-    let c : entry_cost row (Some s) ≡ cost_at g k = ap gate_cost a.costs in
+    let c : entry_cost row (Some s) ≡ cost_at g k = ap paired_cost a.costs in
     let rd : Read g tracks gone p qs ms = read_rest g n tracks p qs ms gone f.resting (omega (arith, f.shows.count)) in
     let pr : IsPairing (row ∷ rows) rd.entries × Balances (row ∷ rows) rd.entries rd.plot_prices rd.track_prices = resting_prove f.graph f.resting f.shows rd.is in
     let e : m ≢ entry_cost row (Some s) + cost (rest (Some s) rows) ys = λ q.
     let same : cost (row ∷ rows) (Some s ∷ ys) ≡ cost (row ∷ rows) rd.entries =
     omega (arith, q, b.1, f.value.least rd.entries pr.0, no_cheaper (row ∷ rows) rd.entries rd.plot_prices rd.track_prices pr.1 (Some s ∷ ys) b.0) in
     let ba : Balances (row ∷ rows) (Some s ∷ ys) rd.plot_prices rd.track_prices = record { feasible = pr.1.feasible; equal = omega (arith, pr.1.equal, same) } in
-    let ti : get_or rd.plot_prices 0 0 ≡ gate_cost (row s) + get_or rd.track_prices s 0 = first_tight row rows s ys rd.plot_prices rd.track_prices (omega (arith, rd.is.plot_prices, plot_inside f.shows)) (all_tight (row ∷ rows) (Some s ∷ ys) rd.plot_prices rd.track_prices b.0 ba) in
+    let ti : get_or rd.plot_prices 0 0 ≡ paired_cost (row s) + get_or rd.track_prices s 0 = first_tight row rows s ys rd.plot_prices rd.track_prices (omega (arith, rd.is.plot_prices, plot_inside f.shows)) (all_tight (row ∷ rows) (Some s ∷ ys) rd.plot_prices rd.track_prices b.0 ba) in
     let pz : p + 0 < g.plots = omega (arith, plot_inside f.shows) in
     let u : get_or rd.plot_prices 0 0 ≡ get_or qs p 0 = rd.is.u 0 pz ∙ ap (λ (o : ℕ). get_or qs o 0) (plus_zero p) in
     let w : get_or rd.track_prices s 0 + get_or qs (g.plots + s) 0 ≡ 4097 = rd.is.w s a.within a.here in
@@ -201,7 +202,7 @@ gate_more : {g : Graph} {n tracks p : ℕ} {qs ms : List ℕ} {gone : List Bool}
     → (ys : List (Option ℕ)) → IsPairing (rest (Some s) rows) ys → m < entry_cost row (Some s) + cost (rest (Some s) rows) ys
 gate_more {g} {n} {tracks} {p} {qs} {ms} {gone} {row} {rows} {m} f {tight} {upto} ca fa s h before ys q =
     let a : (k : ℕ) × GateAt g tracks gone p row s k = gate_at f s h in
-    elim (cases_eq (get_or qs p 0 + get_or qs (to_of g a.0) 0) (cost_at g a.0 + MISS)) [
+    elim (cases_eq (get_or qs p 0 + get_or qs (to_of g a.0) 0) (cost_at g a.0 + miss_cost)) [
       | inr d ↦ loose_more f a.1 d ys q
       | inl e ↦
           let i : (i : ℕ) × (i < length tight) × (get_or tight i 0 ≡ a.0) = ca.complete a.0 (record { arc = a.1.arc; exact = e; here = ap (λ (o : ℕ). get_or gone o false) a.1.to ∙ a.1.here }) in
@@ -227,8 +228,8 @@ earlier_track {g} {n} {tracks} {p} {qs} {ms} {gone} {row} {rows} {m} f {tight} {
 
 -- a track is chosen
 pub chosen_track : {g : Graph} {n tracks p : ℕ} {qs ms qs' ms' : List ℕ} {gone : List Bool} {row : Row} {rows : List Row} {m : ℕ} → Fixing g n tracks p qs ms gone row rows m → {tight : List ℕ} {j s : ℕ} → AreCandidates g qs gone p tight → j < length tight
-    → ((i : ℕ) → i < j → Fails g n (set gone p true) (sum qs) (get_or tight i 0)) → to_of g (get_or tight j 0) ≡ g.plots + s → AreResting g n qs' ms' (set (set gone p true) (g.plots + s) true)
-    → cost_at g (get_or tight j 0) + MISS + sum qs' ≡ sum qs → IsFixedBy g n gone (set (set gone p true) (g.plots + s) true) p (Some s) tracks row rows
+    → ((i : ℕ) → i < j → Fails g n (set gone p true) (sum qs) (get_or tight i 0)) → to_of g (get_or tight j 0) ≡ g.plots + s → IsOptimal g n qs' ms' (set (set gone p true) (g.plots + s) true)
+    → cost_at g (get_or tight j 0) + miss_cost + sum qs' ≡ sum qs → IsFixedBy g n gone (set (set gone p true) (g.plots + s) true) p (Some s) tracks row rows
 chosen_track {g} {n} {tracks} {p} {qs} {ms} {qs'} {ms'} {gone} {row} {rows} {m} f {tight} {j} {s} ca jl fa ts r w =
     let k : ℕ = get_or tight j 0 in
     let cd : IsCandidate g qs gone p k = ca.sound j jl in
@@ -240,7 +241,7 @@ chosen_track {g} {n} {tracks} {p} {qs} {ms} {qs'} {ms'} {gone} {row} {rows} {m} 
     let o : (t : ℕ) × (to_of g k ≡ g.plots + t) × (get_or gone (g.plots + t) false ≡ false → row t ≡ Some (cost_at g k)) = f.shows.of 0 k pz (subst (λ (o : ℕ). HasArc g o k) (sym (plus_zero p)) cd.arc) in
     let os : o.0 ≡ s = omega (arith, o.1, ts) in
     let rw' : row s ≡ Some (cost_at g k) = subst (λ (t : ℕ). row t ≡ Some (cost_at g k)) os (o.2 (ap (λ (t : ℕ). get_or gone (g.plots + t) false) os ∙ here)) in
-    let c : entry_cost row (Some s) ≡ cost_at g k = ap gate_cost rw' in
+    let c : entry_cost row (Some s) ≡ cost_at g k = ap paired_cost rw' in
     let v : (v : ℕ) × HasValue (rest (Some s) rows) v × (sum qs' + 4097 ≡ v + 4097 * unseen (drop g.plots gone)) = value_taken f s st here r in
     record {
       least = m;
@@ -264,7 +265,7 @@ every_track f ca fa (Some t) h b ys q = gate_more f ca fa t h (λ k i e a il ik.
 -- the least pairing leaves the plot alone
 left_out : {g : Graph} {n tracks p : ℕ} {qs ms : List ℕ} {gone : List Bool} {row : Row} {rows : List Row} {m : ℕ} → Fixing g n tracks p qs ms gone row rows m
     → ((y : Option ℕ) → Gates row y → EntryBefore y None → (ys : List (Option ℕ)) → IsPairing (rest y rows) ys → m < entry_cost row y + cost (rest y rows) ys)
-    → (xs : List (Option ℕ)) → IsPairing (row ∷ rows) xs → cost (row ∷ rows) xs ≡ m → (ys : List (Option ℕ)) × IsPairing rows ys × (MISS + cost rows ys ≡ m)
+    → (xs : List (Option ℕ)) → IsPairing (row ∷ rows) xs → cost (row ∷ rows) xs ≡ m → (ys : List (Option ℕ)) × IsPairing rows ys × (miss_cost + cost rows ys ≡ m)
 left_out f e [] h q = absurd h.gates
 left_out {g} {n} {tracks} {p} {qs} {ms} {gone} {row} {rows} {m} f e (None ∷ xs) h q = (xs, subst (λ (o : List Row). IsPairing o xs) (rest_none rows) (tail_pairs row rows None xs h).0, q)
 left_out {g} {n} {tracks} {p} {qs} {ms} {gone} {row} {rows} {m} f e (Some t ∷ xs) h q =
@@ -275,7 +276,7 @@ left_out {g} {n} {tracks} {p} {qs} {ms} {gone} {row} {rows} {m} f e (Some t ∷ 
 pub chosen_none : {g : Graph} {n tracks p : ℕ} {qs ms : List ℕ} {gone : List Bool} {row : Row} {rows : List Row} {m : ℕ} → Fixing g n tracks p qs ms gone row rows m → {tight : List ℕ} → AreCandidates g qs gone p tight
     → ((i : ℕ) → i < length tight → Fails g n (set gone p true) (sum qs) (get_or tight i 0)) → IsFixedBy g n gone (set gone p true) p None tracks row rows
 chosen_none {g} {n} {tracks} {p} {qs} {ms} {gone} {row} {rows} {m} f {tight} ca fa =
-    let lo : (ys : List (Option ℕ)) × IsPairing rows ys × (MISS + cost rows ys ≡ m) = left_out f (every_track f ca fa) f.value.entries f.value.pairing f.value.equal in
+    let lo : (ys : List (Option ℕ)) × IsPairing rows ys × (miss_cost + cost rows ys ≡ m) = left_out f (every_track f ca fa) f.value.entries f.value.pairing f.value.equal in
     record {
       least = m;
       choice = record {

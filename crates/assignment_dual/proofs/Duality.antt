@@ -1,11 +1,12 @@
 -- Feasible prices bound the cost of every pairing from below.
 use Rattle.std.proofs.Common.{◌≡◌, ◌≢◌, ◌≤◌, ℕ, zero, suc, ◌+◌, List, [], ◌∷◌, Option, Some, None, arith, refl, sym, ap, IsSome, sum, get_or, set, get_or-set_other}
 use Rattle.std.proofs.lemmas.List.Sums.{sum_by-cons}
-use Rattle.assignment_dual.specs.Pairings.{Row, MISS, gate_cost, entry_cost, Gates, AllGate, Misses, Once, IsPairing, cost}
+use Rattle.trk_base.specs.Limits.{miss_cost}
+use Rattle.assignment_dual.specs.Pairings.{Row, paired_cost, entry_cost, Gates, AllGate, Misses, Once, IsPairing, cost}
 
 -- Prices without a sign: the price of a plot is u, the price of a track is -w.
 abbrev pub RowFeasible : Row → ℕ → List ℕ → Type 0
-RowFeasible row u ws = (u ≤ MISS) × ((t c : ℕ) → row t ≡ Some c → u ≤ c + get_or ws t 0)
+RowFeasible row u ws = (u ≤ miss_cost) × ((t c : ℕ) → row t ≡ Some c → u ≤ c + get_or ws t 0)
 
 abbrev pub Feasible : List Row → List ℕ → List ℕ → Type 0
 Feasible [] [] ws = Unit {0}
@@ -20,8 +21,8 @@ pub record Balances (rows : List Row) (xs : List (Option ℕ)) (us ws : List ℕ
 
 -- u plus the price of the track named is the cost of the entry
 abbrev pub IsTight : Row → Option ℕ → ℕ → List ℕ → Type 0
-IsTight row None u ws = u ≡ MISS
-IsTight row (Some t) u ws = u ≡ gate_cost (row t) + get_or ws t 0
+IsTight row None u ws = u ≡ miss_cost
+IsTight row (Some t) u ws = u ≡ paired_cost (row t) + get_or ws t 0
 
 abbrev pub AllTight : List Row → List (Option ℕ) → List ℕ → List ℕ → Type 0
 AllTight [] xs us ws = Unit {0}
@@ -56,7 +57,7 @@ taken_within (Some t ∷ xs) ws h = omega (arith, sum-zeroed ws t, taken-zeroed 
 row_bound : (row : Row) (x : Option ℕ) (u : ℕ) (ws : List ℕ) → Gates row x → RowFeasible row u ws → u ≤ entry_cost row x + taken (x ∷ []) ws
 row_bound row None u ws g h = omega (arith, h.0)
 row_bound row (Some t) u ws g h =
-    elim (row t) as (λ r. row t ≡ r → IsSome r → u ≤ gate_cost r + (get_or ws t 0 + 0)) [
+    elim (row t) as (λ r. row t ≡ r → IsSome r → u ≤ paired_cost r + (get_or ws t 0 + 0)) [
       | None ↦ λ e k. absurd (cc)
       | Some c ↦ λ e k. omega (arith, h.1 t c e)
     ] refl g

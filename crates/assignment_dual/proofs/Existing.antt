@@ -10,7 +10,7 @@ use Rattle.assignment_dual.specs.Least.{first_best, least_of, least_pairing, Gat
 use Rattle.assignment_dual.proofs.First.{tail_pairs, least_cost, first_choice}
 use Rattle.assignment_dual.proofs.Prefixes.{nothing_least}
 use Rattle.assignment_dual.proofs.Choices.{is_some_of}
-use Rattle.assignment_dual.proofs.Signed.{row_tells, row_at_place, count_rows}
+use Rattle.assignment_dual.proofs.Signed.{row_tells, row_at_index, count_rows}
 
 -- a track among these, or none
 abbrev Among : ℕ → ℕ → Option ℕ → Type 0
@@ -153,6 +153,6 @@ least_pairing_is tracks rows h = least_is tracks (length rows) rows (omega arith
 pub problem_below : (p : Problem) → IsProblem p → GateBelow p.tracks (rows_of p)
 problem_below p h plot track l g =
     let n : plot < p.plots = omega (arith, l, count_rows p) in
-    let e : row_at (rows_of p) plot ≡ row_of p.edges plot = row_at_place p plot n in
+    let e : row_at (rows_of p) plot ≡ row_of p.edges plot = row_at_index p plot n in
     let s : (c : ℕ) × (row_of p.edges plot track ≡ Some c) = is_some_of (row_of p.edges plot track) (subst (λ (row : Row). IsSome (row track)) e g) in
     row_tells (λ a b d. b < p.tracks) p.edges plot track s.0 (λ j k. h.tracks j (0, 0, 0) k) s.1

@@ -1,7 +1,7 @@
 -- The first pairing is found entry by entry.
 use Rattle.std.proofs.Common.{◌≡◌, ◌≢◌, ◌≤◌, ◌<◌, ◌⊎◌, inl, inr, ℕ, ◌+◌, List, [], ◌∷◌, Option, Some, None, is_some, true, false, Bool, cond, arith, refl, sym, ◌∙◌, ap, subst, eq-eqb}
 use Rattle.std.proofs.lemmas.Bool.{cases_order, ne_eqb}
-use Rattle.assignment_dual.specs.Pairings.{Row, gate_cost, entry_cost, Gates, AllGate, Misses, IsPairing, cost, EntryBefore, ComesFirst, IsLeast}
+use Rattle.assignment_dual.specs.Pairings.{Row, paired_cost, entry_cost, Gates, AllGate, Misses, IsPairing, cost, EntryBefore, ComesFirst, IsLeast}
 use Rattle.assignment_dual.specs.First.{without, rest, IsFirstChoice}
 
 -- a gate that isn't the taken track is as before
@@ -22,7 +22,7 @@ rest_cost : (s : ℕ) (rows : List Row) (ys : List (Option ℕ)) → Misses s ys
 rest_cost s [] ys m = refl
 rest_cost s (row ∷ rows) [] m = refl
 rest_cost s (row ∷ rows) (None ∷ ys) m = omega (arith, rest_cost s rows ys m.1)
-rest_cost s (row ∷ rows) (Some t ∷ ys) m = omega (arith, ap gate_cost (without_other s row t (λ e. m.0 (ap Some e))), rest_cost s rows ys m.1)
+rest_cost s (row ∷ rows) (Some t ∷ ys) m = omega (arith, ap paired_cost (without_other s row t (λ e. m.0 (ap Some e))), rest_cost s rows ys m.1)
 
 back_gates : (s : ℕ) (rows : List Row) (ys : List (Option ℕ)) → AllGate (rest (Some s) rows) ys → AllGate rows ys × Misses s ys
 back_gates s [] [] g = (tt, tt)
@@ -48,7 +48,7 @@ tail_back row rows (Some s) ys g p =
     let b : AllGate rows ys × Misses s ys = back_gates s rows ys p.gates in
     (record { gates = (g, b.0); once = (b.1, p.once) }, rest_cost s rows ys b.1)
 
-le_cases : (a b : ℕ) → a ≤ b → (a < b) ⊎ (a ≡ b)
+pub le_cases : (a b : ℕ) → a ≤ b → (a < b) ⊎ (a ≡ b)
 le_cases a b h = elim (cases_order a b) [ inl e ↦ inr e | inr o ↦ elim o [ inl l ↦ inl l | inr g ↦ absurd (omega (arith, h, g)) ] ]
 
 entry_order : (x y : Option ℕ) → EntryBefore x y ⊎ ((x ≡ y) ⊎ EntryBefore y x)

@@ -8,7 +8,7 @@ pub mod Turns
 pub mod Trees
 pub mod Paths
 pub mod Shifts
-pub mod Settling
+pub mod Augments
 pub mod Raising
 pub mod Adding
 pub mod Resting
@@ -25,3 +25,4 @@ pub mod Unique
 pub mod Renumbering
 pub mod Parts
 pub mod Restricting
+pub mod OnePlot

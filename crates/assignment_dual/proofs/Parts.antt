@@ -192,10 +192,10 @@ record Picks (i : ℕ) (labels ps : List ℕ) : Type 0 where
   pub sound : (k : ℕ) → k < length ps → (get_or ps k 0 < length labels) × (get_or labels (get_or ps k 0) 0 ≡ i)
   pub complete : (p : ℕ) → p < length labels → get_or labels p 0 ≡ i → (k : ℕ) × (k < length ps) × (get_or ps k 0 ≡ p)
 
--- those of them behind the first place
-record PicksBehind (i l : ℕ) (labels ps : List ℕ) : Type 0 where
+-- those of them after the first place
+record PicksAfter (i l : ℕ) (labels ps : List ℕ) : Type 0 where
   pub rising : IsStrictlyIncreasing ps
-  pub behind : (k : ℕ) → k < length ps → 0 < get_or ps k 0
+  pub after : (k : ℕ) → k < length ps → 0 < get_or ps k 0
   pub sound : (k : ℕ) → k < length ps → (get_or ps k 0 < suc (length labels)) × (get_or (l ∷ labels) (get_or ps k 0) 0 ≡ i)
   pub complete : (p : ℕ) → p < length labels → get_or labels p 0 ≡ i → (k : ℕ) × (k < length ps) × (get_or ps k 0 ≡ suc p)
 
@@ -208,16 +208,16 @@ lower_at ps k h = get_or-map lower ps k 0 0 h
 lower_length : (ps : List ℕ) → length (map lower ps) ≡ length ps
 lower_length ps = length-map ps lower
 
-picks_lower : {i l : ℕ} {labels ps : List ℕ} → PicksBehind i l labels ps → Picks i labels (map lower ps)
+picks_lower : {i l : ℕ} {labels ps : List ℕ} → PicksAfter i l labels ps → Picks i labels (map lower ps)
 picks_lower {i} {l} {labels} {ps} b =
     let n : length (map lower ps) ≡ length ps = lower_length ps in
     record {
       rising = λ k h.
           let h' : k + 1 < length ps = omega (arith, n, h) in
-          omega (arith, lower_at ps k (omega (arith, h')), lower_at ps (k + 1) h', b.rising k h', b.behind k (omega (arith, h')));
+          omega (arith, lower_at ps k (omega (arith, h')), lower_at ps (k + 1) h', b.rising k h', b.after k (omega (arith, h')));
       sound = λ k h.
           let h' : k < length ps = omega (arith, n, h) in
-          let e : get_or ps k 0 ≡ suc (get_or (map lower ps) k 0) = omega (arith, lower_at ps k h', b.behind k h') in
+          let e : get_or ps k 0 ≡ suc (get_or (map lower ps) k 0) = omega (arith, lower_at ps k h', b.after k h') in
           (omega (arith, e, (b.sound k h').0), sym (ap (λ (p : ℕ). get_or (l ∷ labels) p 0) e) ∙ (b.sound k h').1);
       complete = λ p h e.
           let r : (k : ℕ) × (k < length ps) × (get_or ps k 0 ≡ suc p) = b.complete p h e in
@@ -241,11 +241,11 @@ rest_rises x xs r k h =
     let e : suc k + 1 ≡ suc (k + 1) = omega arith in
     subst (λ (o : ℕ). get_or xs k 0 < get_or (x ∷ xs) o 0) e (r (suc k) (omega (arith, h)))
 
--- the places behind the first, where the label i stands in front
-behind_front : {i l : ℕ} {labels ps : List ℕ} → Picks i (l ∷ labels) (zero ∷ ps) → PicksBehind i l labels ps
-behind_front {i} {l} {labels} {ps} b = record {
+-- the places after the first, where the label i stands in front
+after_first : {i l : ℕ} {labels ps : List ℕ} → Picks i (l ∷ labels) (zero ∷ ps) → PicksAfter i l labels ps
+after_first {i} {l} {labels} {ps} b = record {
   rising = rest_rises zero ps b.rising;
-  behind = λ k h. rise_on (zero ∷ ps) b.rising 0 (suc k) (omega arith) (omega (arith, h));
+  after = λ k h. rise_on (zero ∷ ps) b.rising 0 (suc k) (omega arith) (omega (arith, h));
   sound = λ k h. b.sound (suc k) (omega (arith, h));
   complete = λ p h e.
       let r : (k : ℕ) × (k < suc (length ps)) × (get_or (zero ∷ ps) k 0 ≡ suc p) = b.complete (suc p) (omega (arith, h)) e in
@@ -253,10 +253,10 @@ behind_front {i} {l} {labels} {ps} b = record {
 }
 
 -- and where it doesn't
-behind_other : {i l : ℕ} {labels ps : List ℕ} → Picks i (l ∷ labels) ps → l ≢ i → PicksBehind i l labels ps
-behind_other {i} {l} {labels} {ps} b f = record {
+after_other : {i l : ℕ} {labels ps : List ℕ} → Picks i (l ∷ labels) ps → l ≢ i → PicksAfter i l labels ps
+after_other {i} {l} {labels} {ps} b f = record {
   rising = b.rising;
-  behind = λ k h. elim (cases_eq (get_or ps k 0) 0) [
+  after = λ k h. elim (cases_eq (get_or ps k 0) 0) [
     | inl z ↦ absurd (f (ap (λ (p : ℕ). get_or (l ∷ labels) p 0) (sym z) ∙ (b.sound k h).1))
     | inr z ↦ omega (arith, z)
   ];
@@ -271,8 +271,8 @@ late p ps r (suc k) h e = omega (arith, e, rise_on (suc p ∷ ps) r 0 (suc k) (o
 front_at : {X : Type 0} (d x : X) (i a : ℕ) (labels : List ℕ) (xs : List X) → ((qs : List ℕ) → Picks i labels qs → labelled i labels xs ≡ at_plots d xs qs) → (ps : List ℕ) → Picks i (a ∷ labels) ps → a ≡ i → x ∷ labelled i labels xs ≡ at_plots d (x ∷ xs) ps
 front_at d x i a labels xs f [] b e = absurd (omega (arith, (b.complete 0 (omega arith) e).1))
 front_at {X} d x i a labels xs f (zero ∷ ps) b e =
-    let r : PicksBehind i a labels ps = behind_front b in
-    ap (λ (o : List X). x ∷ o) (f (map lower ps) (picks_lower r) ∙ sym (lower_map d x xs ps r.behind))
+    let r : PicksAfter i a labels ps = after_first b in
+    ap (λ (o : List X). x ∷ o) (f (map lower ps) (picks_lower r) ∙ sym (lower_map d x xs ps r.after))
 front_at d x i a labels xs f (suc p ∷ ps) b e =
     let r : (k : ℕ) × (k < length (suc p ∷ ps)) × (get_or (suc p ∷ ps) k 0 ≡ 0) = b.complete 0 (omega arith) e in
     absurd (late p ps b.rising r.0 r.1 r.2)
@@ -284,8 +284,8 @@ picked_at d i (a ∷ labels) [] ps l b = absurd (omega (arith, l))
 picked_at {X} d i (a ∷ labels) (x ∷ xs) ps l b = elim (cases_eq a i) [
   | inl e ↦ here_step true i a labels x xs e ∙ front_at d x i a labels xs (λ qs q. picked_at d i labels xs qs (omega (arith, l)) q) ps b e
   | inr f ↦
-      let r : PicksBehind i a labels ps = behind_other b f in
-      other_step true i a labels x xs f ∙ picked_at d i labels xs (map lower ps) (omega (arith, l)) (picks_lower r) ∙ sym (lower_map d x xs ps r.behind)
+      let r : PicksAfter i a labels ps = after_other b f in
+      other_step true i a labels x xs f ∙ picked_at d i labels xs (map lower ps) (omega (arith, l)) (picks_lower r) ∙ sym (lower_map d x xs ps r.after)
 ]
 
 -- a list that contains, by place

@@ -3,14 +3,14 @@ use Rattle.std.proofs.Common.{◌≡◌, ◌≢◌, ◌<◌, ◌⊎◌, inl, inr
 use Rattle.std.proofs.lemmas.Bool.{cases_eq, cases_lt}
 use Rattle.assignment_dual.specs.declared.graph.Graph.{Graph}
 use Rattle.assignment_dual.specs.declared.search.Node.{Node}
-use Rattle.assignment_dual.specs.Pairings.{MISS}
-use Rattle.assignment_dual.specs.Vertices.{Across, IsGraph, Tight, AreMates}
-use Rattle.assignment_dual.specs.Search.{vertex_at, from_at, mate_at, IsSearchTree, ArePaired, IsEnd, IsPlaced, AreTurned, AreParted}
+use Rattle.trk_base.specs.Limits.{miss_cost}
+use Rattle.assignment_dual.specs.Vertices.{Across, IsGraph, Tight, AreMatched}
+use Rattle.assignment_dual.specs.Search.{vertex_at, from_at, mate_at, IsSearchTree, ArePaired, IsEnd, IsMatchedAfter, AreRematched, AreUnmatched}
 use Rattle.assignment_dual.proofs.Turns.{across_differ, across_back, across_thrice, across_at, mates_across, by_turn, back_arc, turned_mates}
 use Rattle.assignment_dual.proofs.Trees.{root_apart, mate_side}
 
 -- a vertex is parted from its mate; prices may change at that vertex
-pub parted_mates : {g : Graph} {n : ℕ} {qs ms new_q new_m : List ℕ} {x y : ℕ} → AreMates g n qs ms → x < n → y ≡ get_or ms x 0 → AreParted ms new_m x y → ((v : ℕ) → v ≢ x → get_or new_q v 0 ≡ get_or qs v 0) → AreMates g n new_q new_m
+pub parted_mates : {g : Graph} {n : ℕ} {qs ms new_q new_m : List ℕ} {x y : ℕ} → AreMatched g n qs ms → x < n → y ≡ get_or ms x 0 → AreUnmatched ms new_m x y → ((v : ℕ) → v ≢ x → get_or new_q v 0 ≡ get_or qs v 0) → AreMatched g n new_q new_m
 parted_mates {g} {n} {qs} {ms} {new_q} {new_m} {x} {y} am hx hy p same =
     let yx : get_or ms y 0 ≡ x = ap (λ (i : ℕ). get_or ms i 0) hy ∙ am.back x hx in
     let away : (v : ℕ) → v < n → v ≢ x → v ≢ y → (get_or ms v 0 ≢ x) × (get_or ms v 0 ≢ y) =
@@ -41,20 +41,20 @@ parted_mates {g} {n} {qs} {ms} {new_q} {new_m} {x} {y} am hx hy p same =
           subst (λ (o : ℕ). Tight g new_q v o) (sym mate) z;
     }
 
--- The path behind the node `at` is turned: its vertex is alone, the nodes before it are as they were.
+-- The path after the node `at` is turned: its vertex is alone, the nodes before it are as they were.
 pub record Turning (g : Graph) (n : ℕ) (qs ms now : List ℕ) (tree : List Node) (x at : ℕ) : Type 0 where
   pub inside : at < length tree
-  pub mates : AreMates g n qs now
+  pub mates : AreMatched g n qs now
   pub hole : 0 < at → get_or now (vertex_at tree at) 0 ≡ vertex_at tree at
   pub before : ArePaired ms tree at
-  pub busy : 0 < at → (mate_at ms tree at ≢ vertex_at tree at) ⊎ (get_or qs (vertex_at tree at) 0 ≡ MISS)
+  pub busy : 0 < at → (mate_at ms tree at ≢ vertex_at tree at) ⊎ (get_or qs (vertex_at tree at) 0 ≡ miss_cost)
   pub kept : (m : ℕ) → m < at → mate_at now tree m ≡ mate_at ms tree m
-  pub root : at ≡ 0 → (get_or now x 0 ≢ x) ⊎ (get_or qs x 0 ≡ MISS)
-  pub alone : (v : ℕ) → v < n → get_or now v 0 ≡ v → (0 < at → v ≢ vertex_at tree at) → (get_or qs v 0 ≡ MISS) ⊎ (get_or ms v 0 ≡ v)
-  pub out : (v : ℕ) → v < n → v ≢ x → get_or ms v 0 ≡ v → get_or qs v 0 ≢ MISS → get_or now v 0 ≡ v
+  pub root : at ≡ 0 → (get_or now x 0 ≢ x) ⊎ (get_or qs x 0 ≡ miss_cost)
+  pub alone : (v : ℕ) → v < n → get_or now v 0 ≡ v → (0 < at → v ≢ vertex_at tree at) → (get_or qs v 0 ≡ miss_cost) ⊎ (get_or ms v 0 ≡ v)
+  pub out : (v : ℕ) → v < n → v ≢ x → get_or ms v 0 ≡ v → get_or qs v 0 ≢ miss_cost → get_or now v 0 ≡ v
 
 -- the mate of a node is no vertex seen
-pub mate_unseen : {g : Graph} {n : ℕ} {qs ms : List ℕ} {seen : List Bool} {tree : List Node} {x : ℕ} → IsGraph g n → AreMates g n qs ms → IsSearchTree g n qs ms seen tree x → get_or ms x 0 ≡ x
+pub mate_unseen : {g : Graph} {n : ℕ} {qs ms : List ℕ} {seen : List Bool} {tree : List Node} {x : ℕ} → IsGraph g n → AreMatched g n qs ms → IsSearchTree g n qs ms seen tree x → get_or ms x 0 ≡ x
     → (i m : ℕ) → i < length tree → (0 < i → mate_at ms tree i ≢ vertex_at tree i) → 0 < m → m < length tree → mate_at ms tree i ≢ vertex_at tree m
 mate_unseen {g} {n} {qs} {ms} {seen} {tree} {x} gr am t e zero m h p q l c = root_apart t m q l (sym (sym (ap (λ (v : ℕ). get_or ms v 0) t.root ∙ e) ∙ c))
 mate_unseen {g} {n} {qs} {ms} {seen} {tree} {x} gr am t e (suc i) m h p q l c =
@@ -64,8 +64,8 @@ mate_unseen {g} {n} {qs} {ms} {seen} {tree} {x} gr am t e (suc i) m h p q l c =
     let l : Across g.plots (vertex_at tree m) (vertex_at tree (suc i)) = subst (λ (v : ℕ). Across g.plots v (vertex_at tree (suc i))) c a in
     across_differ (across_thrice b (across_back l) d) refl
 
-pub turning_first : {g : Graph} {n : ℕ} {qs ms now : List ℕ} {seen : List Bool} {tree : List Node} {x e : ℕ} → IsGraph g n → AreMates g n qs ms → IsSearchTree g n qs ms seen tree x → get_or ms x 0 ≡ x → IsEnd qs ms tree e
-    → AreParted ms now (vertex_at tree e) (mate_at ms tree e) → Turning g n qs ms now tree x e
+pub turning_first : {g : Graph} {n : ℕ} {qs ms now : List ℕ} {seen : List Bool} {tree : List Node} {x e : ℕ} → IsGraph g n → AreMatched g n qs ms → IsSearchTree g n qs ms seen tree x → get_or ms x 0 ≡ x → IsEnd qs ms tree e
+    → AreUnmatched ms now (vertex_at tree e) (mate_at ms tree e) → Turning g n qs ms now tree x e
 turning_first {g} {n} {qs} {ms} {now} {seen} {tree} {x} {e} gr am t mx en p =
     let le : vertex_at tree e < n = t.within e en.inside in
     record {
@@ -117,8 +117,8 @@ turning_first {g} {n} {qs} {ms} {now} {seen} {tree} {x} {e} gr am t mx en p =
     }
 
 -- the vertex of the node is given to the mate of the node before
-pub turning_next : {g : Graph} {n : ℕ} {qs ms now new : List ℕ} {seen : List Bool} {tree : List Node} {x at : ℕ} → IsGraph g n → AreMates g n qs ms → IsSearchTree g n qs ms seen tree x → get_or ms x 0 ≡ x
-    → Turning g n qs ms now tree x at → 0 < at → (w : ℕ) → w ≡ mate_at now tree (from_at tree at) → AreTurned now new (vertex_at tree at) w (get_or now w 0) → Turning g n qs ms new tree x (from_at tree at)
+pub turning_next : {g : Graph} {n : ℕ} {qs ms now new : List ℕ} {seen : List Bool} {tree : List Node} {x at : ℕ} → IsGraph g n → AreMatched g n qs ms → IsSearchTree g n qs ms seen tree x → get_or ms x 0 ≡ x
+    → Turning g n qs ms now tree x at → 0 < at → (w : ℕ) → w ≡ mate_at now tree (from_at tree at) → AreRematched now new (vertex_at tree at) w (get_or now w 0) → Turning g n qs ms new tree x (from_at tree at)
 turning_next {g} {n} {qs} {ms} {now} {new} {seen} {tree} {x} {at} gr am t mx u pa w we tu =
     let b : ℕ = from_at tree at in
     let ba : b < at = t.earlier at pa u.inside in
@@ -131,7 +131,7 @@ turning_next {g} {n} {qs} {ms} {now} {new} {seen} {tree} {x} {at} gr am t mx u p
     let ta : Tight g qs w (vertex_at tree at) = subst (λ (v : ℕ). Tight g qs v (vertex_at tree at)) (sym wm) (t.tight at pa u.inside) in
     let back : Tight g qs (vertex_at tree at) w = back_arc ta.1 (gr.arcs w ta.0 wn ta.1.arc).back in
     let yn : vertex_at tree at < n = t.within at u.inside in
-    let mates' : AreMates g n qs new = turned_mates gr u.mates tu yn (u.hole pa) refl back.1 in
+    let mates' : AreMatched g n qs new = turned_mates gr u.mates tu yn (u.hole pa) refl back.1 in
     -- a vertex of an earlier node is none of the three that change
     let away : (m : ℕ) → m < b → get_or new (vertex_at tree m) 0 ≡ get_or now (vertex_at tree m) 0 = λ m h.
     let ml : m < length tree = omega (arith, h, bl) in
@@ -167,7 +167,7 @@ turning_next {g} {n} {qs} {ms} {now} {new} {seen} {tree} {x} {at} gr am t mx u p
           let r : w ≡ x = wm ∙ ap (mate_at ms tree) e ∙ ap (λ (v : ℕ). get_or ms v 0) t.root ∙ mx in
           inl (λ c. root_apart t at pa u.inside (sym tu.y_is ∙ ap (λ (v : ℕ). get_or new v 0) r ∙ c));
       alone = λ v h a d.
-          by_turn (λ v o. o ≡ v → v < n → (0 < b → v ≢ vertex_at tree b) → (get_or qs v 0 ≡ MISS) ⊎ (get_or ms v 0 ≡ v)) tu
+          by_turn (λ v o. o ≡ v → v < n → (0 < b → v ≢ vertex_at tree b) → (get_or qs v 0 ≡ miss_cost) ⊎ (get_or ms v 0 ≡ v)) tu
           (λ c l d. absurd (across_differ (across_at gr wn ta.1) c))
           (λ c l d. absurd (across_differ (across_at gr wn ta.1) (sym c)))
           (λ q c l d. elim (cases_lt 0 b) [
@@ -201,7 +201,7 @@ turning_next {g} {n} {qs} {ms} {now} {new} {seen} {tree} {x} {at} gr am t mx u p
     }
 
 -- the two are neither one vertex nor mates
-pub turning_apart : {g : Graph} {n : ℕ} {qs ms now : List ℕ} {seen : List Bool} {tree : List Node} {x at : ℕ} → IsGraph g n → AreMates g n qs ms → IsSearchTree g n qs ms seen tree x → get_or ms x 0 ≡ x
+pub turning_apart : {g : Graph} {n : ℕ} {qs ms now : List ℕ} {seen : List Bool} {tree : List Node} {x at : ℕ} → IsGraph g n → AreMatched g n qs ms → IsSearchTree g n qs ms seen tree x → get_or ms x 0 ≡ x
     → Turning g n qs ms now tree x at → 0 < at → (y b w : ℕ) → y ≡ vertex_at tree at → b ≡ from_at tree at → w ≡ mate_at now tree b → (y ≢ w) × (get_or now w 0 ≢ y)
 turning_apart {g} {n} {qs} {ms} {now} {seen} {tree} {x} {at} gr am t mx u pa y b w ye be we =
     let ba : b < at = omega (arith, be, t.earlier at pa u.inside) in
@@ -217,13 +217,13 @@ turning_apart {g} {n} {qs} {ms} {now} {seen} {tree} {x} {at} gr am t mx u pa y b
       ]),
     )
 
-pub turning_step : {g : Graph} {n : ℕ} {qs ms now new : List ℕ} {seen : List Bool} {tree : List Node} {x at : ℕ} → IsGraph g n → AreMates g n qs ms → IsSearchTree g n qs ms seen tree x → get_or ms x 0 ≡ x
-    → Turning g n qs ms now tree x at → 0 < at → (y b w z : ℕ) → y ≡ vertex_at tree at → b ≡ from_at tree at → w ≡ mate_at now tree b → z ≡ get_or now w 0 → AreTurned now new y w z → Turning g n qs ms new tree x b
+pub turning_step : {g : Graph} {n : ℕ} {qs ms now new : List ℕ} {seen : List Bool} {tree : List Node} {x at : ℕ} → IsGraph g n → AreMatched g n qs ms → IsSearchTree g n qs ms seen tree x → get_or ms x 0 ≡ x
+    → Turning g n qs ms now tree x at → 0 < at → (y b w z : ℕ) → y ≡ vertex_at tree at → b ≡ from_at tree at → w ≡ mate_at now tree b → z ≡ get_or now w 0 → AreRematched now new y w z → Turning g n qs ms new tree x b
 turning_step {g} {n} {qs} {ms} {now} {new} {seen} {tree} {x} {at} gr am t mx u pa y b w z ye be we ze tu =
     subst (Turning g n qs ms new tree x) (sym be)
-    (turning_next gr am t mx u pa w (we ∙ ap (mate_at now tree) be) (subst (λ (v : ℕ). AreTurned now new v w (get_or now w 0)) ye (subst (AreTurned now new y w) ze tu)))
+    (turning_next gr am t mx u pa w (we ∙ ap (mate_at now tree) be) (subst (λ (v : ℕ). AreRematched now new v w (get_or now w 0)) ye (subst (AreRematched now new y w) ze tu)))
 
-pub turned_whole : {g : Graph} {n : ℕ} {qs ms now : List ℕ} {tree : List Node} {x at : ℕ} → Turning g n qs ms now tree x at → at ≡ 0 → IsPlaced n qs ms now x
+pub turned_whole : {g : Graph} {n : ℕ} {qs ms now : List ℕ} {tree : List Node} {x at : ℕ} → Turning g n qs ms now tree x at → at ≡ 0 → IsMatchedAfter n qs ms now x
 turned_whole {g} {n} {qs} {ms} {now} {tree} {x} {at} u z = record {
   alone = λ v h a. elim (cases_eq v x) [
     | inl e ↦ elim (u.root z) [

@@ -3,23 +3,23 @@ use Rattle.std.proofs.Common.{◌≡◌, ◌≢◌, ◌≤◌, ◌<◌, inr, ℕ
 use Rattle.assignment_dual.specs.declared.graph.Graph.{Graph}
 use Rattle.assignment_dual.specs.Pairings.{Row, IsLeast}
 use Rattle.assignment_dual.specs.First.{rest}
-use Rattle.assignment_dual.specs.Vertices.{AreResting}
+use Rattle.assignment_dual.specs.Vertices.{IsOptimal}
 use Rattle.assignment_dual.specs.Rests.{ShowsRest}
 use Rattle.assignment_dual.specs.Choices.{IsFixedBy}
 use Rattle.assignment_dual.proofs.First.{first_choice}
 
--- behind these entries the least pairing of what is left makes the least pairing
+-- after these entries the least pairing of what is left makes the least pairing
 pub record Left (g : Graph) (n tracks : ℕ) (gone : List Bool) (p : ℕ) (entries : List (Option ℕ)) (rows : List Row) : Type 0 where
   pub left : List Row
   pub shows : ShowsRest g n tracks gone p left
   pub least : (ys : List (Option ℕ)) → IsLeast left ys → IsLeast rows (entries ++ ys)
 
 pub record Choosing (g : Graph) (n : ℕ) (first : List Bool) (qs ms : List ℕ) (gone : List Bool) (p : ℕ) (entries : List (Option ℕ)) : Type 0 where
-  pub resting : AreResting g n qs ms gone
+  pub resting : IsOptimal g n qs ms gone
   pub here : (v : ℕ) → p ≤ v → v < g.plots → get_or gone v false ≡ false
   pub so_far : (tracks : ℕ) (rows : List Row) → ShowsRest g n tracks first 0 rows → Left g n tracks gone p entries rows
 
-pub choosing_first : {g : Graph} {n : ℕ} {first : List Bool} {qs ms : List ℕ} → AreResting g n qs ms first → ((v : ℕ) → v < g.plots → get_or first v false ≡ false) → Choosing g n first qs ms first 0 []
+pub choosing_first : {g : Graph} {n : ℕ} {first : List Bool} {qs ms : List ℕ} → IsOptimal g n qs ms first → ((v : ℕ) → v < g.plots → get_or first v false ≡ false) → Choosing g n first qs ms first 0 []
 choosing_first r h = record {
   resting = r;
   here = λ v a b. h v b;
@@ -41,7 +41,7 @@ left_next {g} {n} {tracks} {p} {gone} {new} entries {rows} {x} (row ∷ left) s 
       least = λ ys q. subst (IsLeast rows) (one_more entries x ys) (l (x ∷ ys) (first_choice row left x b.least ys b.choice q));
     }
 
-pub choosing_next : {g : Graph} {n p : ℕ} {first gone new : List Bool} {qs ms new_q new_m : List ℕ} {entries : List (Option ℕ)} {x : Option ℕ} → Choosing g n first qs ms gone p entries → p < g.plots → AreResting g n new_q new_m new
+pub choosing_next : {g : Graph} {n p : ℕ} {first gone new : List Bool} {qs ms new_q new_m : List ℕ} {entries : List (Option ℕ)} {x : Option ℕ} → Choosing g n first qs ms gone p entries → p < g.plots → IsOptimal g n new_q new_m new
     → ((v : ℕ) → v < g.plots → v ≢ p → get_or new v false ≡ get_or gone v false)
     → ((tracks : ℕ) (row : Row) (rows : List Row) → ShowsRest g n tracks gone p (row ∷ rows) → IsFixedBy g n gone new p x tracks row rows) → Choosing g n first new_q new_m new (p + 1) (entries ++ x ∷ [])
 choosing_next {g} {n} {p} {first} {gone} {new} {qs} {ms} {new_q} {new_m} {entries} {x} c h r o f = record {

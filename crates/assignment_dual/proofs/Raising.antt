@@ -9,7 +9,7 @@ use Rattle.assignment_dual.specs.Rising.{MayShift, AreRaised, AreShifted}
 pub raised_none : (qs : List ℕ) (place : ℕ → ℕ) (from d : ℕ) → AreRaised qs qs place from from d
 raised_none qs place from d = record { count = refl; raised = λ i h k. absurd (omega (arith, h, k)); others = λ v f. refl }
 
--- a place behind those before stands as it stood
+-- a place after those before stands as it stood
 pub not_yet : {old mid : List ℕ} {place : ℕ → ℕ} {from k d : ℕ} → AreRaised old mid place from k d → ((i : ℕ) → from ≤ i → i < k → place i ≢ place k) → get_or mid (place k) 0 ≡ get_or old (place k) 0
 not_yet {old} {mid} {place} {from} {k} {d} r f = r.others (place k) f
 

@@ -2,7 +2,7 @@
 use Rattle.std.proofs.Common.{◌≡◌, ◌<◌, inl, inr, ℕ, zero, suc, ◌+◌, List, [], ◌∷◌, length, Option, Some, None, is_some, arith, refl, sym, ◌∙◌, ap, subst}
 use Rattle.std.specs.List.Sorted.{IsStrictlyIncreasing}
 use Rattle.std.proofs.lemmas.Bool.{cases_lt, cases_order}
-use Rattle.assignment_dual.specs.Pairings.{Row, gate_cost, AllGate, Misses, Once, cost, NotAfter, ComesFirst, IsLeast}
+use Rattle.assignment_dual.specs.Pairings.{Row, paired_cost, AllGate, Misses, Once, cost, NotAfter, ComesFirst, IsLeast}
 use Rattle.assignment_dual.specs.Rests.{row_at}
 use Rattle.assignment_dual.specs.Renumbering.{number_at, IsRenumbered, AreRenumbered, renumbered}
 
@@ -49,7 +49,7 @@ cost_on numbers [] (other ∷ others) xs e g = absurd e
 cost_on numbers (row ∷ rows) [] xs e g = absurd e
 cost_on numbers (row ∷ rows) (other ∷ others) [] e g = absurd g
 cost_on numbers (row ∷ rows) (other ∷ others) (None ∷ xs) e g = omega (arith, cost_on numbers rows others xs e.1 g.1)
-cost_on numbers (row ∷ rows) (other ∷ others) (Some place ∷ xs) e g = omega (arith, ap gate_cost (e.0.same place (e.0.within place g.0)), cost_on numbers rows others xs e.1 g.1)
+cost_on numbers (row ∷ rows) (other ∷ others) (Some place ∷ xs) e g = omega (arith, ap paired_cost (e.0.same place (e.0.within place g.0)), cost_on numbers rows others xs e.1 g.1)
 
 -- numbers that rise tell the order of their places
 pub rise_on : (numbers : List ℕ) → IsStrictlyIncreasing numbers → (a b : ℕ) → a < b → b < length numbers → number_at numbers a < number_at numbers b
@@ -103,22 +103,22 @@ before_on numbers r (Some a ∷ xs) (Some b ∷ ys) w v h = elim h [
 ]
 
 -- a pairing by numbers, by their places
-record ByPlaces (numbers : List ℕ) (rows : List Row) (ys : List (Option ℕ)) : Type 0 where
+record ByIndices (numbers : List ℕ) (rows : List Row) (ys : List (Option ℕ)) : Type 0 where
   pub places : List (Option ℕ)
   pub gates : AllGate rows places
   pub is : renumbered numbers places ≡ ys
 
-places_of : (numbers : List ℕ) (rows others : List Row) (ys : List (Option ℕ)) → Each numbers rows others → AllGate others ys → ByPlaces numbers rows ys
-places_of numbers [] [] [] e g = record { places = []; gates = tt; is = refl }
-places_of numbers [] [] (y ∷ ys) e g = absurd g
-places_of numbers [] (other ∷ others) ys e g = absurd e
-places_of numbers (row ∷ rows) [] ys e g = absurd e
-places_of numbers (row ∷ rows) (other ∷ others) [] e g = absurd g
-places_of numbers (row ∷ rows) (other ∷ others) (None ∷ ys) e g =
-    let b : ByPlaces numbers rows ys = places_of numbers rows others ys e.1 g.1 in
+indices_of : (numbers : List ℕ) (rows others : List Row) (ys : List (Option ℕ)) → Each numbers rows others → AllGate others ys → ByIndices numbers rows ys
+indices_of numbers [] [] [] e g = record { places = []; gates = tt; is = refl }
+indices_of numbers [] [] (y ∷ ys) e g = absurd g
+indices_of numbers [] (other ∷ others) ys e g = absurd e
+indices_of numbers (row ∷ rows) [] ys e g = absurd e
+indices_of numbers (row ∷ rows) (other ∷ others) [] e g = absurd g
+indices_of numbers (row ∷ rows) (other ∷ others) (None ∷ ys) e g =
+    let b : ByIndices numbers rows ys = indices_of numbers rows others ys e.1 g.1 in
     record { places = None ∷ b.places; gates = (tt, b.gates); is = ap (λ (o : List (Option ℕ)). None ∷ o) b.is }
-places_of numbers (row ∷ rows) (other ∷ others) (Some track ∷ ys) e g =
-    let b : ByPlaces numbers rows ys = places_of numbers rows others ys e.1 g.1 in
+indices_of numbers (row ∷ rows) (other ∷ others) (Some track ∷ ys) e g =
+    let b : ByIndices numbers rows ys = indices_of numbers rows others ys e.1 g.1 in
     let n : (place : ℕ) × (place < length numbers) × (number_at numbers place ≡ track) = e.0.named track g.0 in
     let o : other track ≡ row n.0 = sym (ap other n.2) ∙ e.0.same n.0 n.1 in
     record {
@@ -145,7 +145,7 @@ other_numbers numbers rows others xs r n l =
         once = once_on numbers r xs (within_of numbers rows others xs e l.pairing.gates) l.pairing.once;
       };
       first = λ ys p.
-          let b : ByPlaces numbers rows ys = places_of numbers rows others ys e p.gates in
+          let b : ByIndices numbers rows ys = indices_of numbers rows others ys e p.gates in
           let o : Once b.places = once_back numbers b.places (subst Once (sym b.is) p.once) in
           subst (ComesFirst others (renumbered numbers xs)) b.is (first_on numbers rows others r e xs b.places l.pairing.gates b.gates (l.first b.places (record { gates = b.gates; once = o })));
     }

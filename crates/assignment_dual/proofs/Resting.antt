@@ -4,9 +4,9 @@ use Rattle.std.proofs.lemmas.List.{length-set}
 use Rattle.std.proofs.lemmas.List.Sums.{sum_by-set}
 use Rattle.std.proofs.lemmas.Bool.{cases_eq, cases_Bool}
 use Rattle.assignment_dual.specs.declared.graph.Graph.{Graph}
-use Rattle.assignment_dual.specs.Pairings.{MISS}
-use Rattle.assignment_dual.specs.Vertices.{to_of, IsPriced, AreMates, OthersPay, IsSettled, AreResting}
-use Rattle.assignment_dual.specs.Search.{AreParted}
+use Rattle.trk_base.specs.Limits.{miss_cost}
+use Rattle.assignment_dual.specs.Vertices.{to_of, IsDualFeasible, AreMatched, OthersPay, IsAugmented, IsOptimal}
+use Rattle.assignment_dual.specs.Search.{AreUnmatched}
 use Rattle.assignment_dual.proofs.Paths.{parted_mates}
 
 false_true : {b : Bool} → b ≡ true → b ≡ false → ⊥
@@ -25,14 +25,14 @@ pub record AreOut (n : ℕ) (qs ms new_q new_m : List ℕ) (x y : ℕ) : Type 0 
 lower : {n : ℕ} {qs ms new_q new_m : List ℕ} {x y : ℕ} → AreOut n qs ms new_q new_m x y → (v : ℕ) → get_or new_q v 0 ≤ get_or qs v 0
 lower {n} {qs} {ms} {new_q} {new_m} {x} {y} p v = elim (cases_eq v x) [ inl e ↦ omega (arith, ap (λ (i : ℕ). get_or new_q i 0) e, p.price) | inr d ↦ omega (arith, p.prices v d) ]
 
-pub out_priced : {g : Graph} {n : ℕ} {qs ms new_q new_m : List ℕ} {x y : ℕ} → IsPriced g n qs → AreOut n qs ms new_q new_m x y → IsPriced g n new_q
+pub out_priced : {g : Graph} {n : ℕ} {qs ms new_q new_m : List ℕ} {x y : ℕ} → IsDualFeasible g n qs → AreOut n qs ms new_q new_m x y → IsDualFeasible g n new_q
 out_priced {g} {n} {qs} {ms} {new_q} {new_m} {x} {y} pr p = record {
   count = p.q_count;
   alone = λ v. omega (arith, lower p v, pr.alone v);
   arcs = λ v k h a. omega (arith, lower p v, lower p (to_of g k), pr.arcs v k h a);
 }
 
-pub out_mates : {g : Graph} {n : ℕ} {qs ms new_q new_m : List ℕ} {x y : ℕ} → AreMates g n qs ms → x < n → y ≡ get_or ms x 0 → AreOut n qs ms new_q new_m x y → AreMates g n new_q new_m
+pub out_mates : {g : Graph} {n : ℕ} {qs ms new_q new_m : List ℕ} {x y : ℕ} → AreMatched g n qs ms → x < n → y ≡ get_or ms x 0 → AreOut n qs ms new_q new_m x y → AreMatched g n new_q new_m
 out_mates {g} {n} {qs} {ms} {new_q} {new_m} {x} {y} am hx hy p =
     parted_mates am hx hy (record { count = p.m_count ∙ sym am.count; x_is = p.x_is; y_is = p.y_is; others = p.others }) p.prices
 
@@ -40,14 +40,14 @@ gone_before : (gone : List Bool) (x v : ℕ) (b : Bool) → v ≢ x → get_or (
 gone_before gone x v b d = get_or-set_other gone x v b false d
 
 -- whoever is alone after the parting pays or stands out
-out_alone : {g : Graph} {n : ℕ} {qs ms new_q new_m : List ℕ} {gone : List Bool} {x y : ℕ} → AreResting g n qs ms gone → AreOut n qs ms new_q new_m x y → (v : ℕ) → v < n → v ≢ x → v ≢ y → get_or new_m v 0 ≡ v
-    → ((get_or gone v false ≡ false) × (get_or new_q v 0 ≡ MISS)) ⊎ ((get_or gone v false ≡ true) × (get_or new_q v 0 ≡ 0))
+out_alone : {g : Graph} {n : ℕ} {qs ms new_q new_m : List ℕ} {gone : List Bool} {x y : ℕ} → IsOptimal g n qs ms gone → AreOut n qs ms new_q new_m x y → (v : ℕ) → v < n → v ≢ x → v ≢ y → get_or new_m v 0 ≡ v
+    → ((get_or gone v false ≡ false) × (get_or new_q v 0 ≡ miss_cost)) ⊎ ((get_or gone v false ≡ true) × (get_or new_q v 0 ≡ 0))
 out_alone {g} {n} {qs} {ms} {new_q} {new_m} {gone} {x} {y} r p v h i j e = elim (cases_Bool (get_or gone v false)) [
   | inl k ↦ inr (k, p.prices v i ∙ (r.out v h k).1)
   | inr k ↦ inl (k, p.prices v i ∙ r.full v h k (sym (p.others v i j) ∙ e))
 ]
 
-pub out_pay : {g : Graph} {n : ℕ} {qs ms new_q new_m : List ℕ} {gone : List Bool} {x y : ℕ} → AreResting g n qs ms gone → AreOut n qs ms new_q new_m x y → OthersPay n new_q new_m y
+pub out_pay : {g : Graph} {n : ℕ} {qs ms new_q new_m : List ℕ} {gone : List Bool} {x y : ℕ} → IsOptimal g n qs ms gone → AreOut n qs ms new_q new_m x y → OthersPay n new_q new_m y
 out_pay {g} {n} {qs} {ms} {new_q} {new_m} {gone} {x} {y} r p = record {
   pay = λ v h j e. elim (cases_eq v x) [
     | inl q ↦ inr (ap (λ (o : ℕ). get_or new_q o 0) q ∙ p.price)
@@ -56,8 +56,8 @@ out_pay {g} {n} {qs} {ms} {new_q} {new_m} {gone} {x} {y} r p = record {
 }
 
 -- x is out and y has another place
-pub rests_without : {g : Graph} {n : ℕ} {qs ms mid_q mid_m new_q new_m : List ℕ} {gone : List Bool} {x y : ℕ} → AreResting g n qs ms gone → length gone ≡ n → x < n → x ≢ y → get_or gone x false ≡ false → y < n → get_or ms y 0 ≡ x
-    → AreOut n qs ms mid_q mid_m x y → IsPriced g n new_q → AreMates g n new_q new_m → IsSettled n mid_q mid_m new_q new_m y → AreResting g n new_q new_m (set gone x true)
+pub rests_without : {g : Graph} {n : ℕ} {qs ms mid_q mid_m new_q new_m : List ℕ} {gone : List Bool} {x y : ℕ} → IsOptimal g n qs ms gone → length gone ≡ n → x < n → x ≢ y → get_or gone x false ≡ false → y < n → get_or ms y 0 ≡ x
+    → AreOut n qs ms mid_q mid_m x y → IsDualFeasible g n new_q → AreMatched g n new_q new_m → IsAugmented n mid_q mid_m new_q new_m y → IsOptimal g n new_q new_m (set gone x true)
 rests_without {g} {n} {qs} {ms} {mid_q} {mid_m} {new_q} {new_m} {gone} {x} {y} r l hx d hg hy my p pr am st = record {
   priced = pr;
   mates = am;
@@ -82,7 +82,7 @@ rests_without {g} {n} {qs} {ms} {mid_q} {mid_m} {new_q} {new_m} {gone} {x} {y} r
 }
 
 -- x was alone and is out
-pub rests_alone : {g : Graph} {n : ℕ} {qs ms mid_q mid_m : List ℕ} {gone : List Bool} {x y : ℕ} → AreResting g n qs ms gone → length gone ≡ n → x < n → y ≡ x → y ≡ get_or ms x 0 → AreOut n qs ms mid_q mid_m x y → AreResting g n mid_q mid_m (set gone x true)
+pub rests_alone : {g : Graph} {n : ℕ} {qs ms mid_q mid_m : List ℕ} {gone : List Bool} {x y : ℕ} → IsOptimal g n qs ms gone → length gone ≡ n → x < n → y ≡ x → y ≡ get_or ms x 0 → AreOut n qs ms mid_q mid_m x y → IsOptimal g n mid_q mid_m (set gone x true)
 rests_alone {g} {n} {qs} {ms} {mid_q} {mid_m} {gone} {x} {y} r l hx e hy p = record {
   priced = out_priced r.priced p;
   mates = out_mates r.mates hx hy p;
@@ -97,10 +97,10 @@ rests_alone {g} {n} {qs} {ms} {mid_q} {mid_m} {gone} {x} {y} r l hx e hy p = rec
       p.prices v i ∙ r.full v h (sym (gone_before gone x v true i) ∙ k) (sym (p.others v i (λ q. i (q ∙ e))) ∙ m);
 }
 
-pub back_pay : {g : Graph} {n : ℕ} {qs ms : List ℕ} {gone : List Bool} → AreResting g n qs ms gone → (x : ℕ) → OthersPay n qs ms x
+pub back_pay : {g : Graph} {n : ℕ} {qs ms : List ℕ} {gone : List Bool} → IsOptimal g n qs ms gone → (x : ℕ) → OthersPay n qs ms x
 back_pay {g} {n} {qs} {ms} {gone} r x = record { pay = λ v h i e. elim (cases_Bool (get_or gone v false)) [ inl k ↦ inr (r.out v h k).1 | inr k ↦ inl (r.full v h k e) ] }
 
-pub rests_with : {g : Graph} {n : ℕ} {qs ms new_q new_m : List ℕ} {gone : List Bool} {x : ℕ} → AreResting g n qs ms gone → length gone ≡ n → x < n → IsPriced g n new_q → AreMates g n new_q new_m → IsSettled n qs ms new_q new_m x → AreResting g n new_q new_m (set gone x false)
+pub rests_with : {g : Graph} {n : ℕ} {qs ms new_q new_m : List ℕ} {gone : List Bool} {x : ℕ} → IsOptimal g n qs ms gone → length gone ≡ n → x < n → IsDualFeasible g n new_q → AreMatched g n new_q new_m → IsAugmented n qs ms new_q new_m x → IsOptimal g n new_q new_m (set gone x false)
 rests_with {g} {n} {qs} {ms} {new_q} {new_m} {gone} {x} r l hx pr am st = record {
   priced = pr;
   mates = am;
@@ -116,7 +116,7 @@ rests_with {g} {n} {qs} {ms} {new_q} {new_m} {gone} {x} r l hx pr am st = record
   ];
 }
 
-pub out_parted : {n : ℕ} {qs ms new_m : List ℕ} {x y : ℕ} → length qs ≡ n → length ms ≡ n → x < n → AreParted ms new_m x y → AreOut n qs ms (set qs x 0) new_m x y
+pub out_parted : {n : ℕ} {qs ms new_m : List ℕ} {x y : ℕ} → length qs ≡ n → length ms ≡ n → x < n → AreUnmatched ms new_m x y → AreOut n qs ms (set qs x 0) new_m x y
 out_parted {n} {qs} {ms} {new_m} {x} {y} lq lm hx p = record {
   q_count = length-set qs x 0 ∙ lq;
   m_count = p.count ∙ lm;
@@ -128,8 +128,8 @@ out_parted {n} {qs} {ms} {new_m} {x} {y} lq lm hx p = record {
 }
 
 -- x and its mate y are out
-pub pair_rests : {g : Graph} {n : ℕ} {qs ms new_m : List ℕ} {gone : List Bool} {x y : ℕ} → AreResting g n qs ms gone → length gone ≡ n → x < n → y < n → y ≡ get_or ms x 0 → x ≢ y → AreParted ms new_m x y
-    → AreResting g n (set (set qs x 0) y 0) new_m (set (set gone x true) y true)
+pub pair_rests : {g : Graph} {n : ℕ} {qs ms new_m : List ℕ} {gone : List Bool} {x y : ℕ} → IsOptimal g n qs ms gone → length gone ≡ n → x < n → y < n → y ≡ get_or ms x 0 → x ≢ y → AreUnmatched ms new_m x y
+    → IsOptimal g n (set (set qs x 0) y 0) new_m (set (set gone x true) y true)
 pair_rests {g} {n} {qs} {ms} {new_m} {gone} {x} {y} r l hx hyn hy d p =
     let a : AreOut n qs ms (set qs x 0) new_m x y = out_parted r.priced.count r.mates.count hx p in
     let b : AreOut n (set qs x 0) new_m (set (set qs x 0) y 0) new_m y y = record {

@@ -9,7 +9,7 @@ use Rattle.assignment_dual.specs.Problems.{Edge, Problem, IsProblem, edge_at, ro
 use Rattle.assignment_dual.specs.Rests.{no_row, row_at}
 use Rattle.assignment_dual.specs.Parts.{at_plots, IsPartOf}
 use Rattle.assignment_dual.specs.Renumbering.{IsRenumbered, AreRenumbered, renumbered}
-use Rattle.assignment_dual.proofs.Signed.{row_tells, row_at_place, count_rows}
+use Rattle.assignment_dual.proofs.Signed.{row_tells, row_at_index, count_rows}
 use Rattle.assignment_dual.proofs.Building.{row_found}
 use Rattle.assignment_dual.proofs.Choices.{is_some_of}
 use Rattle.assignment_dual.proofs.Renumbering.{other_numbers}
@@ -48,8 +48,8 @@ renumbered_rows p q plots tracks hp hq r = record {
   each = λ i h.
       let iq : i < q.plots = omega (arith, h, count_rows q) in
       let il : i < length plots = omega (arith, iq, r.plots) in
-      let a : row_at (rows_of q) i ≡ row_of q.edges i = row_at_place q i iq in
-      let b : row_at (at_plots no_row (rows_of p) plots) i ≡ row_of p.edges (get_or plots i 0) = get_or-map (λ (v : ℕ). get_or (rows_of p) v no_row) plots i 0 no_row il ∙ row_at_place p (get_or plots i 0) (r.inside i il) in
+      let a : row_at (rows_of q) i ≡ row_of q.edges i = row_at_index q i iq in
+      let b : row_at (at_plots no_row (rows_of p) plots) i ≡ row_of p.edges (get_or plots i 0) = get_or-map (λ (v : ℕ). get_or (rows_of p) v no_row) plots i 0 no_row il ∙ row_at_index p (get_or plots i 0) (r.inside i il) in
       subst (λ (o : Row). IsRenumbered tracks o (row_at (at_plots no_row (rows_of p) plots) i)) (sym a)
       (subst (IsRenumbered tracks (row_of q.edges i)) (sym b) (renumbered_row p q plots tracks hp hq r i il));
 }

@@ -2,8 +2,9 @@
 use Rattle.std.proofs.Common.{◌≡◌, ◌≢◌, ◌≤◌, ◌<◌, ◌⊎◌, inl, inr, ℕ, zero, suc, ◌+◌, ◌-◌, length, get_or, List, [], ◌∷◌, Option, Some, None, is_some, Bool, true, false, arith, refl, sym, ◌∙◌, ap, subst}
 use Rattle.std.proofs.lemmas.Bool.{cases_eq, cases_lt, cases_Bool}
 use Rattle.assignment_dual.specs.declared.graph.Graph.{Graph}
-use Rattle.assignment_dual.specs.Pairings.{Row, MISS, gate_cost, Gates, AllGate, Misses, Once, IsPairing}
-use Rattle.assignment_dual.specs.Vertices.{Across, to_of, cost_at, IsGraph, Tight, AreResting}
+use Rattle.trk_base.specs.Limits.{miss_cost}
+use Rattle.assignment_dual.specs.Pairings.{Row, paired_cost, Gates, AllGate, Misses, Once, IsPairing}
+use Rattle.assignment_dual.specs.Vertices.{Across, to_of, cost_at, IsGraph, Tight, IsOptimal}
 use Rattle.assignment_dual.specs.Rests.{row_at, IsGate, ShowsRest}
 use Rattle.assignment_dual.proofs.Duality.{Feasible, Balances, IsTight, AllTight, balances}
 use Rattle.assignment_dual.proofs.Signed.{feasible_from}
@@ -53,14 +54,14 @@ pub gate_of : (row : Row) (x : Option ℕ) (t c : ℕ) → x ≡ Some t → row 
 gate_of row x t c e h = subst (Gates row) (sym e) (ap is_some h)
 
 pub tight_of : (row : Row) (x : Option ℕ) (t c u : ℕ) (ws : List ℕ) → x ≡ Some t → row t ≡ Some c → u ≡ c + get_or ws t 0 → IsTight row x u ws
-tight_of row x t c u ws e h q = subst (λ (y : Option ℕ). IsTight row y u ws) (sym e) (let z : gate_cost (row t) ≡ c = ap gate_cost h in omega arith)
+tight_of row x t c u ws e h q = subst (λ (y : Option ℕ). IsTight row y u ws) (sym e) (let z : paired_cost (row t) ≡ c = ap paired_cost h in omega arith)
 
 -- a plot that has a track
 pub record HasTrack (g : Graph) (tracks : ℕ) (gone : List Bool) (p : ℕ) (qs ms : List ℕ) (rows : List Row) (xs : List (Option ℕ)) (i t k : ℕ) : Type 0 where
   pub within : t < tracks
   pub here : get_or gone (g.plots + t) false ≡ false
   pub mate : get_or ms (p + i) 0 ≡ g.plots + t
-  pub exact : get_or qs (p + i) 0 + get_or qs (g.plots + t) 0 ≡ cost_at g k + MISS
+  pub exact : get_or qs (p + i) 0 + get_or qs (g.plots + t) 0 ≡ cost_at g k + miss_cost
   pub row : row_at rows i t ≡ Some (cost_at g k)
   pub entry : get_or xs i None ≡ Some t
 
@@ -68,13 +69,13 @@ abbrev pub Entry : Graph → ℕ → List Bool → ℕ → List ℕ → List ℕ
 Entry g tracks gone p qs ms rows xs i = ((get_or ms (p + i) 0 ≡ p + i) × (get_or xs i None ≡ None)) ⊎ ((t : ℕ) × (k : ℕ) × HasTrack g tracks gone p qs ms rows xs i t k)
 
 -- the mate of one who isn't gone isn't either
-mate_here : {g : Graph} {n : ℕ} {qs ms : List ℕ} {gone : List Bool} {v : ℕ} → AreResting g n qs ms gone → v < n → get_or ms v 0 ≢ v → get_or gone (get_or ms v 0) false ≡ false
+mate_here : {g : Graph} {n : ℕ} {qs ms : List ℕ} {gone : List Bool} {v : ℕ} → IsOptimal g n qs ms gone → v < n → get_or ms v 0 ≢ v → get_or gone (get_or ms v 0) false ≡ false
 mate_here {g} {n} {qs} {ms} {gone} {v} r h d = elim (cases_Bool (get_or gone (get_or ms v 0) false)) [
   | inl k ↦ absurd (d (sym (r.out (get_or ms v 0) (r.mates.within v h) k).0 ∙ r.mates.back v h))
   | inr k ↦ k
 ]
 
-entry_at : {g : Graph} {n tracks p : ℕ} {qs ms us ws : List ℕ} {gone : List Bool} {rows : List Row} {xs : List (Option ℕ)} → IsGraph g n → AreResting g n qs ms gone → ShowsRest g n tracks gone p rows → IsReadRest g.plots tracks gone p qs ms xs us ws
+entry_at : {g : Graph} {n tracks p : ℕ} {qs ms us ws : List ℕ} {gone : List Bool} {rows : List Row} {xs : List (Option ℕ)} → IsGraph g n → IsOptimal g n qs ms gone → ShowsRest g n tracks gone p rows → IsReadRest g.plots tracks gone p qs ms xs us ws
     → (i : ℕ) → p + i < g.plots → Entry g tracks gone p qs ms rows xs i
 entry_at {g} {n} {tracks} {p} {qs} {ms} {us} {ws} {gone} {rows} {xs} gr re sh rd i h = elim (cases_eq (get_or ms (p + i) 0) (p + i)) [
   | inl e ↦ inl (e, rd.alone i h e)
@@ -106,7 +107,7 @@ entry_mate {g} t en e = elim en [
 ]
 
 -- mates and prices prove the pairing of the rest
-pub resting_prove : {g : Graph} {n tracks p : ℕ} {qs ms us ws : List ℕ} {gone : List Bool} {rows : List Row} {xs : List (Option ℕ)} → IsGraph g n → AreResting g n qs ms gone
+pub resting_prove : {g : Graph} {n tracks p : ℕ} {qs ms us ws : List ℕ} {gone : List Bool} {rows : List Row} {xs : List (Option ℕ)} → IsGraph g n → IsOptimal g n qs ms gone
     → ShowsRest g n tracks gone p rows → IsReadRest g.plots tracks gone p qs ms xs us ws → IsPairing rows xs × Balances rows xs us ws
 resting_prove {g} {n} {tracks} {p} {qs} {ms} {us} {ws} {gone} {rows} {xs} gr re sh rd =
     let small : (i : ℕ) → p + i < g.plots → p + i < n = λ i h. omega (arith, h, sh.size) in
@@ -131,7 +132,7 @@ resting_prove {g} {n} {tracks} {p} {qs} {ms} {us} {ws} {gone} {rows} {xs} gr re 
           let k : (get_or gone (g.plots + t) false ≡ false) × ((k : ℕ) × IsGate g (p + i) t c k) = sh.has i t c ip e in
           let l : to_of g k.1.0 < n = (gr.arcs (p + i) k.1.0 (small i ip) k.1.1.arc).to in
           let tl : t < tracks = omega (arith, l, k.1.1.to, sh.size) in
-          let b : get_or qs (p + i) 0 + get_or qs (to_of g k.1.0) 0 ≤ cost_at g k.1.0 + MISS = re.priced.arcs (p + i) k.1.0 (small i ip) k.1.1.arc in
+          let b : get_or qs (p + i) 0 + get_or qs (to_of g k.1.0) 0 ≤ cost_at g k.1.0 + miss_cost = re.priced.arcs (p + i) k.1.0 (small i ip) k.1.1.arc in
           let j : get_or qs (to_of g k.1.0) 0 ≡ get_or qs (g.plots + t) 0 = ap (λ (j : ℕ). get_or qs j 0) k.1.1.to in
           omega (arith, rd.u i ip, rd.w t tl k.0, b, j, k.1.1.cost),
     )) in

@@ -4,10 +4,10 @@ use Rattle.std.proofs.lemmas.List.{get_or_past}
 use Rattle.std.proofs.lemmas.Bool.{cases_lt, cases_Bool}
 use Rattle.assignment_dual.specs.declared.graph.Graph.{Graph}
 use Rattle.assignment_dual.specs.declared.search.Node.{Node}
-use Rattle.assignment_dual.specs.Pairings.{MISS}
-use Rattle.assignment_dual.specs.Vertices.{Across, HasArc, to_of, cost_at, GoesBack, IsArc, IsGraph, IsPriced, Tight, AreMates}
+use Rattle.trk_base.specs.Limits.{miss_cost}
+use Rattle.assignment_dual.specs.Vertices.{Across, HasArc, to_of, cost_at, GoesBack, IsArc, IsGraph, IsDualFeasible, Tight, AreMatched}
 use Rattle.assignment_dual.specs.Search.{SeenAcross, IsSwept, mate_at}
-use Rattle.assignment_dual.specs.Rising.{HasRoom, AllHaveRoom}
+use Rattle.assignment_dual.specs.Rising.{HasSlack, AllHaveSlack}
 use Rattle.assignment_dual.proofs.Turns.{across_differ, across_back, across_thrice, mates_across}
 
 -- x and the mates of those seen
@@ -21,7 +21,7 @@ pub record IsTree (g : Graph) (n : ℕ) (qs ms : List ℕ) (seen : List Bool) (x
   pub swept : (v : ℕ) → v < n → Rises ms seen x v → IsSwept g qs seen v
 
 pub record EachHasRoom (g : Graph) (n : ℕ) (qs ms : List ℕ) (seen : List Bool) (x d : ℕ) : Type 0 where
-  pub room : (v : ℕ) → v < n → Rises ms seen x v → HasRoom g qs seen v d
+  pub room : (v : ℕ) → v < n → Rises ms seen x v → HasSlack g qs seen v d
 
 -- those seen fall, those that rise rise, the others stay
 abbrev pub Moved : List ℕ → List ℕ → List ℕ → List Bool → ℕ → ℕ → ℕ → Type 0
@@ -37,48 +37,48 @@ pub record AreMoved (n : ℕ) (qs new ms : List ℕ) (seen : List Bool) (x d : �
 -- the arcs of x before k have been looked at
 pub record Roomy (g : Graph) (qs : List ℕ) (seen : List Bool) (x k d : ℕ) : Type 0 where
   pub some : 0 < d
-  pub alone : get_or qs x 0 + d ≤ MISS
+  pub alone : get_or qs x 0 + d ≤ miss_cost
   pub from : get_or g.first.items x 0 ≤ k
-  pub arcs : (j : ℕ) → HasArc g x j → j < k → get_or seen (to_of g j) false ≡ false → get_or qs x 0 + get_or qs (to_of g j) 0 + d ≤ cost_at g j + MISS
-  pub most : (e : ℕ) → HasRoom g qs seen x e → e ≤ d
+  pub arcs : (j : ℕ) → HasArc g x j → j < k → get_or seen (to_of g j) false ≡ false → get_or qs x 0 + get_or qs (to_of g j) 0 + d ≤ cost_at g j + miss_cost
+  pub most : (e : ℕ) → HasSlack g qs seen x e → e ≤ d
 
 -- the nodes before i have been looked at
 pub record RoomyBelow (g : Graph) (qs ms : List ℕ) (seen : List Bool) (tree : List Node) (i d : ℕ) : Type 0 where
   pub some : 0 < d
-  pub room : (j : ℕ) → j < i → HasRoom g qs seen (mate_at ms tree j) d
-  pub most : (e : ℕ) → AllHaveRoom g qs ms seen tree e → e ≤ d
+  pub room : (j : ℕ) → j < i → HasSlack g qs seen (mate_at ms tree j) d
+  pub most : (e : ℕ) → AllHaveSlack g qs ms seen tree e → e ≤ d
 
-pub less_room : {g : Graph} {qs : List ℕ} {seen : List Bool} {v d e : ℕ} → HasRoom g qs seen v d → e ≤ d → HasRoom g qs seen v e
+pub less_room : {g : Graph} {qs : List ℕ} {seen : List Bool} {v d e : ℕ} → HasSlack g qs seen v d → e ≤ d → HasSlack g qs seen v e
 less_room h l = record { alone = omega (arith, h.alone); arcs = λ k a s. omega (arith, h.arcs k a s) }
 
 -- two on the other side than x are on one side
 pub across_two : {p x a b : ℕ} → Across p x a → Across p x b → Across p b a → ⊥
 across_two h k l = across_differ (across_thrice h (across_back l) k) refl
 
-seen_mate : {g : Graph} {n : ℕ} {qs ms : List ℕ} {seen : List Bool} {x v : ℕ} → IsGraph g n → AreMates g n qs ms → IsTree g n qs ms seen x → v < n → get_or seen (get_or ms v 0) false ≡ true → Across g.plots v (get_or ms v 0)
+seen_mate : {g : Graph} {n : ℕ} {qs ms : List ℕ} {seen : List Bool} {x v : ℕ} → IsGraph g n → AreMatched g n qs ms → IsTree g n qs ms seen x → v < n → get_or seen (get_or ms v 0) false ≡ true → Across g.plots v (get_or ms v 0)
 seen_mate {g} {n} {qs} {ms} {seen} {x} {v} gr am tr h s =
     mates_across gr am h refl (λ e. tr.paired (get_or ms v 0) s (ap (λ (i : ℕ). get_or ms i 0) e))
 
 -- whoever rises stands on x's side
-pub rises_across : {g : Graph} {n : ℕ} {qs ms : List ℕ} {seen : List Bool} {x v u : ℕ} → IsGraph g n → AreMates g n qs ms → IsTree g n qs ms seen x → v < n → Rises ms seen x v → Across g.plots v u → Across g.plots x u
+pub rises_across : {g : Graph} {n : ℕ} {qs ms : List ℕ} {seen : List Bool} {x v u : ℕ} → IsGraph g n → AreMatched g n qs ms → IsTree g n qs ms seen x → v < n → Rises ms seen x v → Across g.plots v u → Across g.plots x u
 rises_across {g} {n} {qs} {ms} {seen} {x} {v} {u} gr am tr h r a = elim r [
   | inl e ↦ subst (λ (i : ℕ). Across g.plots i u) e a
   | inr s ↦ across_thrice (seen_mate gr am tr h s) (across_back (tr.across.across (get_or ms v 0) s)) a
 ]
 
-pub rises_not_seen : {g : Graph} {n : ℕ} {qs ms : List ℕ} {seen : List Bool} {x v : ℕ} → IsGraph g n → AreMates g n qs ms → IsTree g n qs ms seen x → v < n → Rises ms seen x v → get_or seen v false ≡ true → ⊥
+pub rises_not_seen : {g : Graph} {n : ℕ} {qs ms : List ℕ} {seen : List Bool} {x v : ℕ} → IsGraph g n → AreMatched g n qs ms → IsTree g n qs ms seen x → v < n → Rises ms seen x v → get_or seen v false ≡ true → ⊥
 rises_not_seen {g} {n} {qs} {ms} {seen} {x} {v} gr am tr h r s = elim r [
   | inl e ↦ across_differ (tr.across.across v s) (sym e)
   | inr k ↦ across_two (tr.across.across (get_or ms v 0) k) (tr.across.across v s) (seen_mate gr am tr h k)
 ]
 
-pub rises_apart : {g : Graph} {n : ℕ} {qs ms : List ℕ} {seen : List Bool} {x v u : ℕ} → IsGraph g n → AreMates g n qs ms → IsTree g n qs ms seen x → v < n → u < n → Rises ms seen x v → Rises ms seen x u → Across g.plots v u → ⊥
+pub rises_apart : {g : Graph} {n : ℕ} {qs ms : List ℕ} {seen : List Bool} {x v u : ℕ} → IsGraph g n → AreMatched g n qs ms → IsTree g n qs ms seen x → v < n → u < n → Rises ms seen x v → Rises ms seen x u → Across g.plots v u → ⊥
 rises_apart {g} {n} {qs} {ms} {seen} {x} {v} {u} gr am tr h k r q a =
     across_differ (rises_across gr am tr k q (across_back (rises_across gr am tr h r a))) refl
 
 -- one arc more has been looked at, for whose sake x may rise by f
-pub roomy_next : {g : Graph} {qs : List ℕ} {seen : List Bool} {x k d e : ℕ} (f : ℕ) → Roomy g qs seen x k d → HasArc g x k → (get_or seen (to_of g k) false ≡ false → get_or qs x 0 + get_or qs (to_of g k) 0 + f ≡ cost_at g k + MISS)
-    → (get_or seen (to_of g k) false ≡ true → f ≡ MISS) → 0 < e → e ≤ d → e ≤ f → (e ≡ d) ⊎ (e ≡ f) → Roomy g qs seen x (k + 1) e
+pub roomy_next : {g : Graph} {qs : List ℕ} {seen : List Bool} {x k d e : ℕ} (f : ℕ) → Roomy g qs seen x k d → HasArc g x k → (get_or seen (to_of g k) false ≡ false → get_or qs x 0 + get_or qs (to_of g k) 0 + f ≡ cost_at g k + miss_cost)
+    → (get_or seen (to_of g k) false ≡ true → f ≡ miss_cost) → 0 < e → e ≤ d → e ≤ f → (e ≡ d) ⊎ (e ≡ f) → Roomy g qs seen x (k + 1) e
 roomy_next {g} {qs} {seen} {x} {k} {d} {e} f s a free within p l m either = record {
   some = p;
   alone = omega (arith, s.alone, l);
@@ -87,8 +87,8 @@ roomy_next {g} {qs} {seen} {x} {k} {d} {e} f s a free within p l m either = reco
     | inl q ↦ omega (arith, s.arcs j b q u, l)
     | inr q ↦
         let z : j ≡ k = omega (arith, h, q) in
-        let t : get_or qs x 0 + get_or qs (to_of g k) 0 + e ≤ cost_at g k + MISS = omega (arith, free (ap (λ (o : ℕ). get_or seen (to_of g o) false) (sym z) ∙ u), m) in
-        subst (λ (o : ℕ). get_or qs x 0 + get_or qs (to_of g o) 0 + e ≤ cost_at g o + MISS) (sym z) t
+        let t : get_or qs x 0 + get_or qs (to_of g k) 0 + e ≤ cost_at g k + miss_cost = omega (arith, free (ap (λ (o : ℕ). get_or seen (to_of g o) false) (sym z) ∙ u), m) in
+        subst (λ (o : ℕ). get_or qs x 0 + get_or qs (to_of g o) 0 + e ≤ cost_at g o + miss_cost) (sym z) t
   ];
   most = λ o h. elim either [
     | inl q ↦ omega (arith, q, s.most o h)
@@ -99,13 +99,13 @@ roomy_next {g} {qs} {seen} {x} {k} {d} {e} f s a free within p l m either = reco
   ];
 }
 
-pub roomy_more : {g : Graph} {qs ms : List ℕ} {seen : List Bool} {tree : List Node} {i d e f : ℕ} → RoomyBelow g qs ms seen tree i d → i < length tree → HasRoom g qs seen (mate_at ms tree i) f → ((o : ℕ) → HasRoom g qs seen (mate_at ms tree i) o → o ≤ f)
+pub roomy_more : {g : Graph} {qs ms : List ℕ} {seen : List Bool} {tree : List Node} {i d e f : ℕ} → RoomyBelow g qs ms seen tree i d → i < length tree → HasSlack g qs seen (mate_at ms tree i) f → ((o : ℕ) → HasSlack g qs seen (mate_at ms tree i) o → o ≤ f)
     → 0 < e → e ≤ d → e ≤ f → (e ≡ d) ⊎ (e ≡ f) → RoomyBelow g qs ms seen tree (i + 1) e
 roomy_more {g} {qs} {ms} {seen} {tree} {i} {d} {e} {f} b il h most p l m either = record {
   some = p;
   room = λ j k. elim (cases_lt j i) [
     | inl q ↦ less_room (b.room j q) l
-    | inr q ↦ let z : j ≡ i = omega (arith, k, q) in subst (λ (o : ℕ). HasRoom g qs seen (mate_at ms tree o) e) (sym z) (less_room h m)
+    | inr q ↦ let z : j ≡ i = omega (arith, k, q) in subst (λ (o : ℕ). HasSlack g qs seen (mate_at ms tree o) e) (sym z) (less_room h m)
   ];
   most = λ o a. elim either [ inl q ↦ omega (arith, q, b.most o a) | inr q ↦ omega (arith, q, most o (a.room i il)) ];
 }
@@ -114,11 +114,11 @@ pub priced_past : (qs : List ℕ) (n x : ℕ) → length qs ≡ n → n ≤ x �
 priced_past qs n x e l = get_or_past qs x 0 (omega arith)
 
 -- the prices after the shift are undercut by no arc
-arc_kept : {g : Graph} {n : ℕ} {qs new ms : List ℕ} {seen : List Bool} {x d : ℕ} → IsGraph g n → IsPriced g n qs → AreMates g n qs ms → IsTree g n qs ms seen x → EachHasRoom g n qs ms seen x d → AreMoved n qs new ms seen x d
-    → (v k : ℕ) → v < n → HasArc g v k → get_or new v 0 + get_or new (to_of g k) 0 ≤ cost_at g k + MISS
+arc_kept : {g : Graph} {n : ℕ} {qs new ms : List ℕ} {seen : List Bool} {x d : ℕ} → IsGraph g n → IsDualFeasible g n qs → AreMatched g n qs ms → IsTree g n qs ms seen x → EachHasRoom g n qs ms seen x d → AreMoved n qs new ms seen x d
+    → (v k : ℕ) → v < n → HasArc g v k → get_or new v 0 + get_or new (to_of g k) 0 ≤ cost_at g k + miss_cost
 arc_kept {g} {n} {qs} {new} {ms} {seen} {x} {d} gr pr am te ro sh v k h a =
     let i : IsArc g n v k = gr.arcs v k h a in
-    let p : get_or qs v 0 + get_or qs (to_of g k) 0 ≤ cost_at g k + MISS = pr.arcs v k h a in
+    let p : get_or qs v 0 + get_or qs (to_of g k) 0 ≤ cost_at g k + miss_cost = pr.arcs v k h a in
     elim (sh.moved v h) [
       | inl f ↦ elim (sh.moved (to_of g k) i.to) [
         | inl e ↦ omega (arith, f.1, e.1)
@@ -138,7 +138,7 @@ arc_kept {g} {n} {qs} {new} {ms} {seen} {x} {d} gr pr am te ro sh v k h a =
             | inl e ↦
                 let b : (j : ℕ) × GoesBack g v k j = i.back in
                 let z : get_or seen (to_of g b.0) false ≡ false = ap (λ (q : ℕ). get_or seen q false) b.1.to ∙ f.0 in
-                let r : get_or qs (to_of g k) 0 + get_or qs (to_of g b.0) 0 + d ≤ cost_at g b.0 + MISS = (ro.room (to_of g k) i.to e.1).arcs b.0 b.1.arc z in
+                let r : get_or qs (to_of g k) 0 + get_or qs (to_of g b.0) 0 + d ≤ cost_at g b.0 + miss_cost = (ro.room (to_of g k) i.to e.1).arcs b.0 b.1.arc z in
                 let u : get_or qs (to_of g b.0) 0 ≡ get_or qs v 0 = ap (λ (q : ℕ). get_or qs q 0) b.1.to in
                 omega (arith, f.2, e.2, r, u, b.1.cost)
             | inr e ↦ omega (arith, f.2, e.2)
@@ -147,7 +147,7 @@ arc_kept {g} {n} {qs} {new} {ms} {seen} {x} {d} gr pr am te ro sh v k h a =
       ]
     ]
 
-pub shifted_priced : {g : Graph} {n : ℕ} {qs new ms : List ℕ} {seen : List Bool} {x d : ℕ} → IsGraph g n → IsPriced g n qs → AreMates g n qs ms → IsTree g n qs ms seen x → EachHasRoom g n qs ms seen x d → AreMoved n qs new ms seen x d → IsPriced g n new
+pub shifted_priced : {g : Graph} {n : ℕ} {qs new ms : List ℕ} {seen : List Bool} {x d : ℕ} → IsGraph g n → IsDualFeasible g n qs → AreMatched g n qs ms → IsTree g n qs ms seen x → EachHasRoom g n qs ms seen x d → AreMoved n qs new ms seen x d → IsDualFeasible g n new
 shifted_priced {g} {n} {qs} {new} {ms} {seen} {x} {d} gr pr am te ro sh = record {
   count = sh.count ∙ pr.count;
   alone = λ v. elim (cases_lt v n) [
@@ -164,7 +164,7 @@ pub false_true : {b : Bool} → b ≡ true → b ≡ false → ⊥
 false_true h k = cc
 
 -- mates rise and fall together
-mate_kept : {g : Graph} {n : ℕ} {qs new ms : List ℕ} {seen : List Bool} {x d : ℕ} → IsGraph g n → AreMates g n qs ms → IsTree g n qs ms seen x → AreMoved n qs new ms seen x d → get_or ms x 0 ≡ x
+mate_kept : {g : Graph} {n : ℕ} {qs new ms : List ℕ} {seen : List Bool} {x d : ℕ} → IsGraph g n → AreMatched g n qs ms → IsTree g n qs ms seen x → AreMoved n qs new ms seen x d → get_or ms x 0 ≡ x
     → (v : ℕ) → v < n → get_or ms v 0 ≢ v → get_or new v 0 + get_or new (get_or ms v 0) 0 ≡ get_or qs v 0 + get_or qs (get_or ms v 0) 0
 mate_kept {g} {n} {qs} {new} {ms} {seen} {x} {d} gr am te sh ex v h m =
     let bk : get_or ms (get_or ms v 0) 0 ≡ v = am.back v h in
@@ -194,7 +194,7 @@ mate_kept {g} {n} {qs} {new} {ms} {seen} {x} {d} gr am te sh ex v h m =
       ]
     ]
 
-pub shifted_mates : {g : Graph} {n : ℕ} {qs new ms : List ℕ} {seen : List Bool} {x d : ℕ} → IsGraph g n → AreMates g n qs ms → IsTree g n qs ms seen x → AreMoved n qs new ms seen x d → get_or ms x 0 ≡ x → AreMates g n new ms
+pub shifted_mates : {g : Graph} {n : ℕ} {qs new ms : List ℕ} {seen : List Bool} {x d : ℕ} → IsGraph g n → AreMatched g n qs ms → IsTree g n qs ms seen x → AreMoved n qs new ms seen x d → get_or ms x 0 ≡ x → AreMatched g n new ms
 shifted_mates {g} {n} {qs} {new} {ms} {seen} {x} {d} gr am te sh ex = record {
   count = am.count;
   within = am.within;

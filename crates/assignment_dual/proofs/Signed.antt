@@ -3,7 +3,8 @@ use Rattle.std.proofs.Common.{◌≡◌, ◌≤◌, ◌<◌, inl, inr, ℕ, zero
 use Rattle.std.proofs.lemmas.Int.{ints}
 use Rattle.std.proofs.lemmas.List.FromFn.{length-map-range_with_len, get_or-map-range_with_len}
 use Rattle.std.proofs.lemmas.Bool.{cases_eq, eq-eqb, ne_eqb}
-use Rattle.assignment_dual.specs.Pairings.{Row, MISS, IsPairing, cost}
+use Rattle.trk_base.specs.Limits.{miss_cost}
+use Rattle.assignment_dual.specs.Pairings.{Row, IsPairing, cost}
 use Rattle.assignment_dual.specs.Problems.{Edge, Problem, row_of, rows_of, price_at, total, Proves}
 use Rattle.assignment_dual.proofs.Duality.{RowFeasible, Feasible, weak, sum-cons}
 
@@ -64,8 +65,8 @@ row_tells P (e ∷ edges) plot track c h q = elim (cases_eq e.0 plot) [
       row_tells P edges plot track c (λ i l. h (suc i) (omega (arith, l))) (sym z ∙ q)
 ]
 
-pub row_at_place : (p : Problem) (i : ℕ) → i < p.plots → get_or (rows_of p) i (λ t. None) ≡ row_of p.edges i
-row_at_place p i h = get_or-map-range_with_len (row_of p.edges) 0 p.plots i i (λ t. None) h (omega arith)
+pub row_at_index : (p : Problem) (i : ℕ) → i < p.plots → get_or (rows_of p) i (λ t. None) ≡ row_of p.edges i
+row_at_index p i h = get_or-map-range_with_len (row_of p.edges) 0 p.plots i i (λ t. None) h (omega arith)
 
 pub count_rows : (p : Problem) → length (rows_of p) ≡ p.plots
 count_rows p = length-map-range_with_len (row_of p.edges) 0 p.plots
@@ -98,9 +99,9 @@ pub feasible_signed : {p : Problem} {xs : List (Option ℕ)} {us vs : List ℤ} 
 feasible_signed {p} {xs} {us} {vs} h = feasible_from (rows_of p) (map above us) (map below vs) (count_rows p ∙ sym (length_map above us ∙ h.plot_prices)) (λ i l.
     let k : i < p.plots = subst (λ (n : ℕ). i < n) (count_rows p) l in
     let il : i < length us = omega (arith, k, h.plot_prices) in
-    let row : get_or (rows_of p) i (λ t. None) ≡ row_of p.edges i = row_at_place p i k in
+    let row : get_or (rows_of p) i (λ t. None) ≡ row_of p.edges i = row_at_index p i k in
     subst (λ (r : Row). RowFeasible r (get_or (map above us) i 0) (map below vs)) (sym row) (
-      subst (λ (n : ℕ). n ≤ MISS) (sym (above_at us i)) (above_within (price_at us i) MISS (h.below_miss i (pos 0) il)),
+      subst (λ (n : ℕ). n ≤ miss_cost) (sym (above_at us i)) (above_within (price_at us i) miss_cost (h.below_miss i (pos 0) il)),
       λ t c e.
           let m : (price_at us i +ℤ price_at vs t) ≤ℤ pos c = row_tells (λ a b d. (price_at us a +ℤ price_at vs b) ≤ℤ pos d) p.edges i t c (λ j q. h.below_cost j (0, 0, 0) q) e in
           omega (arith, above_at us i, below_of vs t, above_sum (price_at us i) (price_at vs t) c m),

@@ -5,9 +5,9 @@ use Rattle.std.proofs.Math.Seq.{get_or-append_seam}
 use Rattle.std.proofs.lemmas.Bool.{cases_lt}
 use Rattle.assignment_dual.specs.declared.graph.Graph.{Graph}
 use Rattle.assignment_dual.specs.declared.search.Node.{Node}
-use Rattle.assignment_dual.specs.Pairings.{MISS}
-use Rattle.assignment_dual.specs.Vertices.{Across, HasArc, to_of, cost_at, IsGraph, IsPriced, TightArc, Tight, AreMates, OthersPay}
-use Rattle.assignment_dual.specs.Search.{unseen, IsSwept, no_node, vertex_at, from_at, mate_at, IsSearchTree, ArePaired, IsEnd, GoesOn}
+use Rattle.trk_base.specs.Limits.{miss_cost}
+use Rattle.assignment_dual.specs.Vertices.{Across, HasArc, to_of, cost_at, IsGraph, IsDualFeasible, TightArc, Tight, AreMatched, OthersPay}
+use Rattle.assignment_dual.specs.Search.{unseen, IsSwept, no_node, vertex_at, from_at, mate_at, IsSearchTree, ArePaired, IsEnd, IsExtended}
 use Rattle.assignment_dual.proofs.Turns.{across_differ, across_back, across_thrice, across_at, mates_across, seen_set, seen_kept, unseen_set, across_set, swept_more, arcs_next}
 
 push_old : (tree : List Node) (a : Node) (i : ℕ) → i < length tree → get_or (tree ++ a ∷ []) i no_node ≡ get_or tree i no_node
@@ -33,7 +33,7 @@ pub root_apart : {g : Graph} {n : ℕ} {qs ms : List ℕ} {seen : List Bool} {tr
 root_apart t i p h e = across_differ (t.across.across _ (t.marked i p h)) (sym e)
 
 -- the mate of a node stands on the root's side
-pub mate_side : {g : Graph} {n : ℕ} {qs ms : List ℕ} {seen : List Bool} {tree : List Node} {x : ℕ} → IsGraph g n → AreMates g n qs ms → IsSearchTree g n qs ms seen tree x → get_or ms x 0 ≡ x
+pub mate_side : {g : Graph} {n : ℕ} {qs ms : List ℕ} {seen : List Bool} {tree : List Node} {x : ℕ} → IsGraph g n → AreMatched g n qs ms → IsSearchTree g n qs ms seen tree x → get_or ms x 0 ≡ x
     → (i : ℕ) → i < length tree → (0 < i → mate_at ms tree i ≢ vertex_at tree i) → (y : ℕ) → Across g.plots (mate_at ms tree i) y → Across g.plots x y
 mate_side {g} {n} {qs} {ms} {seen} {tree} {x} gr am t e zero h p y a = subst (λ (v : ℕ). Across g.plots v y) (ap (λ (v : ℕ). get_or ms v 0) t.root ∙ e) a
 mate_side {g} {n} {qs} {ms} {seen} {tree} {x} gr am t e (suc i) h p y a =
@@ -76,13 +76,13 @@ tree_pushed {g} {n} {qs} {ms} {seen} {tree} {x} {y} {at} t l h k u ta ac =
       across = across_set t.across ac;
     }
 
-pub goes_on_same : (tree : List Node) → GoesOn tree tree
+pub goes_on_same : (tree : List Node) → IsExtended tree tree
 goes_on_same tree = record { longer = omega arith; same = λ i h. refl }
 
-pub goes_on_pushed : (tree mid : List Node) (a : Node) → GoesOn tree mid → GoesOn tree (mid ++ a ∷ [])
+pub goes_on_pushed : (tree mid : List Node) (a : Node) → IsExtended tree mid → IsExtended tree (mid ++ a ∷ [])
 goes_on_pushed tree mid a g = record { longer = omega (arith, g.longer, push_length mid a); same = λ i h. push_old mid a i (omega (arith, h, g.longer)) ∙ g.same i h }
 
-pub goes_on_then : {tree mid new : List Node} → GoesOn tree mid → GoesOn mid new → GoesOn tree new
+pub goes_on_then : {tree mid new : List Node} → IsExtended tree mid → IsExtended mid new → IsExtended tree new
 goes_on_then {tree} {mid} {new} a b = record { longer = omega (arith, a.longer, b.longer); same = λ i h. b.same i (omega (arith, h, a.longer)) ∙ a.same i h }
 
 pub paired_pushed : {ms : List ℕ} {tree : List Node} {y : ℕ} (at : ℕ) → ArePaired ms tree (length tree) → get_or ms y 0 ≢ y
@@ -92,7 +92,7 @@ paired_pushed {ms} {tree} {y} at p m = record {
 }
 
 -- the new node is alone, and pays for it
-pub end_pushed : {qs ms : List ℕ} {tree : List Node} {y : ℕ} (at : ℕ) → ArePaired ms tree (length tree) → get_or ms y 0 ≡ y → get_or qs y 0 ≡ MISS
+pub end_pushed : {qs ms : List ℕ} {tree : List Node} {y : ℕ} (at : ℕ) → ArePaired ms tree (length tree) → get_or ms y 0 ≡ y → get_or qs y 0 ≡ miss_cost
     → IsEnd qs ms (tree ++ (record { vertex = y; from = at }) ∷ []) (length tree)
 end_pushed {qs} {ms} {tree} {y} at p m f =
     let a : Node = record { vertex = y; from = at } in
@@ -109,20 +109,20 @@ pub record Sweeping (g : Graph) (qs ms : List ℕ) (first_seen seen : List Bool)
   pub count : length seen ≡ length qs
   pub paired : ArePaired ms tree (length tree)
   pub kept : (y : ℕ) → get_or first_seen y false ≡ true → get_or seen y false ≡ true
-  pub front : GoesOn first tree
+  pub front : IsExtended first tree
   pub grown : length tree + unseen seen ≡ length first + unseen first_seen
   pub from : get_or g.first.items x 0 ≤ k
-  pub arcs : (j : ℕ) → HasArc g x j → j < k → get_or qs x 0 + get_or qs (to_of g j) 0 ≡ cost_at g j + MISS → get_or seen (to_of g j) false ≡ true
+  pub arcs : (j : ℕ) → HasArc g x j → j < k → get_or qs x 0 + get_or qs (to_of g j) 0 ≡ cost_at g j + miss_cost → get_or seen (to_of g j) false ≡ true
 
 -- the arc opens y
 pub record Opened (g : Graph) (qs ms : List ℕ) (first_seen seen : List Bool) (first tree : List Node) (y at : ℕ) : Type 0 where
   pub search : IsSearchTree g (length qs) qs ms (set seen y true) (tree ++ (record { vertex = y; from = at }) ∷ []) (vertex_at first 0)
   pub kept : (v : ℕ) → get_or first_seen v false ≡ true → get_or (set seen y true) v false ≡ true
-  pub front : GoesOn first (tree ++ (record { vertex = y; from = at }) ∷ [])
+  pub front : IsExtended first (tree ++ (record { vertex = y; from = at }) ∷ [])
   pub grown : length (tree ++ (record { vertex = y; from = at }) ∷ []) + unseen (set seen y true) ≡ length first + unseen first_seen
   pub side : Across g.plots (vertex_at first 0) y
 
-pub opened : {g : Graph} {qs ms : List ℕ} {first_seen seen : List Bool} {first tree : List Node} {x k y at : ℕ} → IsGraph g (length qs) → AreMates g (length qs) qs ms → get_or ms (vertex_at first 0) 0 ≡ vertex_at first 0
+pub opened : {g : Graph} {qs ms : List ℕ} {first_seen seen : List Bool} {first tree : List Node} {x k y at : ℕ} → IsGraph g (length qs) → AreMatched g (length qs) qs ms → get_or ms (vertex_at first 0) 0 ≡ vertex_at first 0
     → Sweeping g qs ms first_seen seen first tree x k → at < length first → x ≡ mate_at ms first at → x < length qs → TightArc g qs x y k → y < length qs → get_or seen y false ≡ false → Opened g qs ms first_seen seen first tree y at
 opened {g} {qs} {ms} {first_seen} {seen} {first} {tree} {x} {k} {y} {at} gr am al s h xe xl ta yl u =
     let a : Node = record { vertex = y; from = at } in
@@ -140,7 +140,7 @@ opened {g} {qs} {ms} {first_seen} {seen} {first} {tree} {x} {k} {y} {at} gr am a
     }
 
 -- y is alone and pays for it
-pub open_pays : {g : Graph} {qs ms : List ℕ} {x y z k : ℕ} → IsPriced g (length qs) qs → OthersPay (length qs) qs ms z → z ≢ y → y < length qs → get_or ms y 0 ≡ y → get_or qs x 0 ≢ MISS → TightArc g qs x y k → get_or qs y 0 ≡ MISS
+pub open_pays : {g : Graph} {qs ms : List ℕ} {x y z k : ℕ} → IsDualFeasible g (length qs) qs → OthersPay (length qs) qs ms z → z ≢ y → y < length qs → get_or ms y 0 ≡ y → get_or qs x 0 ≢ miss_cost → TightArc g qs x y k → get_or qs y 0 ≡ miss_cost
 open_pays {g} {qs} {ms} {x} {y} {z} {k} pr o d h e b ta = elim (o.pay y h (λ q. d (sym q)) e) [ inl f ↦ f | inr f ↦ absurd (b (omega (arith, ta.exact, pr.alone x, f))) ]
 
 pub sweeping_opened : {g : Graph} {qs ms : List ℕ} {first_seen seen : List Bool} {first tree : List Node} {x k y at : ℕ} → Sweeping g qs ms first_seen seen first tree x k → Opened g qs ms first_seen seen first tree y at → y < length qs
@@ -159,7 +159,7 @@ sweeping_opened {g} {qs} {ms} {first_seen} {seen} {first} {tree} {x} {k} {y} {at
     }
 
 pub sweeping_closed : {g : Graph} {qs ms : List ℕ} {first_seen seen : List Bool} {first tree : List Node} {x k : ℕ} → Sweeping g qs ms first_seen seen first tree x k
-    → (get_or qs x 0 + get_or qs (to_of g k) 0 ≡ cost_at g k + MISS → get_or seen (to_of g k) false ≡ true) → Sweeping g qs ms first_seen seen first tree x (k + 1)
+    → (get_or qs x 0 + get_or qs (to_of g k) 0 ≡ cost_at g k + miss_cost → get_or seen (to_of g k) false ≡ true) → Sweeping g qs ms first_seen seen first tree x (k + 1)
 sweeping_closed {g} {qs} {ms} {first_seen} {seen} {first} {tree} {x} {k} s h = record {
   search = s.search;
   count = s.count;
@@ -176,12 +176,12 @@ pub record Growing (g : Graph) (qs ms : List ℕ) (first_seen seen : List Bool) 
   pub search : IsSearchTree g (length qs) qs ms seen tree (vertex_at first 0)
   pub count : length seen ≡ length qs
   pub paired : ArePaired ms tree (length tree)
-  pub front : GoesOn first tree
+  pub front : IsExtended first tree
   pub within : next ≤ length tree
   pub swept : (i : ℕ) → i < next → IsSwept g qs seen (mate_at ms tree i)
 
 pub growing_next : {g : Graph} {qs ms : List ℕ} {first_seen seen new : List Bool} {first tree then : List Node} {next : ℕ} → Growing g qs ms first_seen seen first tree next → next < length tree
-    → IsSearchTree g (length qs) qs ms new then (vertex_at tree 0) → length new ≡ length seen → ((y : ℕ) → get_or seen y false ≡ true → get_or new y false ≡ true) → GoesOn tree then
+    → IsSearchTree g (length qs) qs ms new then (vertex_at tree 0) → length new ≡ length seen → ((y : ℕ) → get_or seen y false ≡ true → get_or new y false ≡ true) → IsExtended tree then
     → ArePaired ms then (length then) × IsSwept g qs new (mate_at ms tree next) → Growing g qs ms first_seen new first then (next + 1)
 growing_next {g} {qs} {ms} {first_seen} {seen} {new} {first} {tree} {then} {next} s h t l k f a =
     let at : (i : ℕ) → i < length tree → mate_at ms then i ≡ mate_at ms tree i = λ i j. ap (λ (o : Node). get_or ms o.vertex 0) (f.same i j) in

@@ -3,9 +3,9 @@ use Rattle.std.proofs.Common.{◌≡◌, ◌≢◌, ◌<◌, ◌⊎◌, inl, inr
 use Rattle.std.proofs.lemmas.List.Sums.{sum_by-set}
 use Rattle.std.proofs.lemmas.Bool.{cases_eq, cases_lt}
 use Rattle.assignment_dual.specs.declared.graph.Graph.{Graph}
-use Rattle.assignment_dual.specs.Pairings.{MISS}
-use Rattle.assignment_dual.specs.Vertices.{Across, HasArc, to_of, cost_at, GoesBack, IsArc, IsGraph, TightArc, Tight, AreMates}
-use Rattle.assignment_dual.specs.Search.{SeenAcross, unseen, IsSwept, AreTurned}
+use Rattle.trk_base.specs.Limits.{miss_cost}
+use Rattle.assignment_dual.specs.Vertices.{Across, HasArc, to_of, cost_at, GoesBack, IsArc, IsGraph, TightArc, Tight, AreMatched}
+use Rattle.assignment_dual.specs.Search.{SeenAcross, unseen, IsSwept, AreRematched}
 
 pub across_differ : {p x y : ℕ} → Across p x y → x ≢ y
 across_differ a e = elim a.sides [ inl h ↦ omega (arith, h.0, h.1) | inr h ↦ omega (arith, h.0, h.1) ]
@@ -20,7 +20,7 @@ across_thrice a b d = elim a.sides [
   | inr h ↦ elim b.sides [ inl k ↦ elim d.sides [ inl j ↦ absurd (omega (arith, h.0, j.0)) | inr j ↦ record { sides = inr (k.1, j.1) } ] | inr k ↦ absurd (omega (arith, h.1, k.0)) ]
 ]
 
-pub by_turn : (P : ℕ → ℕ → Type 0) {ms new : List ℕ} {x y z : ℕ} → AreTurned ms new x y z → P x y → P y x → (z ≢ y → P z z)
+pub by_turn : (P : ℕ → ℕ → Type 0) {ms new : List ℕ} {x y z : ℕ} → AreRematched ms new x y z → P x y → P y x → (z ≢ y → P z z)
     → ((v : ℕ) → v ≢ x → v ≢ y → v ≢ z → P v (get_or ms v 0)) → (v : ℕ) → P v (get_or new v 0)
 by_turn P {ms} {new} {x} {y} {z} t a b d o v =
     elim (cases_eq v x) [
@@ -38,8 +38,8 @@ pub back_arc : {g : Graph} {qs : List ℕ} {x y k : ℕ} → TightArc g qs x y k
 back_arc {g} {qs} {x} {y} {k} t b = (b.0, record { arc = subst (λ (i : ℕ). HasArc g i b.0) t.to b.1.arc; to = b.1.to; exact = omega (arith, t.exact, b.1.cost) })
 
 -- y's mate is on x's side, and none of the three is another's mate
-pub turned_mates : {g : Graph} {n : ℕ} {qs ms new : List ℕ} {x y z k : ℕ} → IsGraph g n → AreMates g n qs ms → AreTurned ms new x y z → x < n → get_or ms x 0 ≡ x → z ≡ get_or ms y 0
-    → TightArc g qs x y k → AreMates g n qs new
+pub turned_mates : {g : Graph} {n : ℕ} {qs ms new : List ℕ} {x y z k : ℕ} → IsGraph g n → AreMatched g n qs ms → AreRematched ms new x y z → x < n → get_or ms x 0 ≡ x → z ≡ get_or ms y 0
+    → TightArc g qs x y k → AreMatched g n qs new
 turned_mates {g} {n} {qs} {ms} {new} {x} {y} {z} {k} gr am t hx e hz ta =
     let a : IsArc g n x k = gr.arcs x k hx ta.arc in
     let hy : y < n = subst (λ (i : ℕ). i < n) ta.to a.to in
@@ -87,18 +87,18 @@ pub across_at : {g : Graph} {n : ℕ} {qs : List ℕ} {x y k : ℕ} → IsGraph 
 across_at {g} {n} {qs} {x} {y} {k} gr h t = subst (Across g.plots x) t.to (gr.arcs x k h t.arc).across
 
 -- a vertex and its mate lie across
-pub mates_across : {g : Graph} {n : ℕ} {qs ms : List ℕ} {y z : ℕ} → IsGraph g n → AreMates g n qs ms → y < n → z ≡ get_or ms y 0 → z ≢ y → Across g.plots y z
+pub mates_across : {g : Graph} {n : ℕ} {qs ms : List ℕ} {y z : ℕ} → IsGraph g n → AreMatched g n qs ms → y < n → z ≡ get_or ms y 0 → z ≢ y → Across g.plots y z
 mates_across {g} {n} {qs} {ms} {y} {z} gr am h e d =
     let t : Tight g qs y (get_or ms y 0) = am.tight y h (λ q. d (e ∙ q)) in
     subst (Across g.plots y) (sym e) (across_at gr h t.1)
 
 pub arcs_next : (g : Graph) (qs : List ℕ) (seen new : List Bool) (x k : ℕ) → ((v : ℕ) → get_or seen v false ≡ true → get_or new v false ≡ true)
-    → ((j : ℕ) → HasArc g x j → j < k → get_or qs x 0 + get_or qs (to_of g j) 0 ≡ cost_at g j + MISS → get_or seen (to_of g j) false ≡ true)
-    → (get_or qs x 0 + get_or qs (to_of g k) 0 ≡ cost_at g k + MISS → get_or new (to_of g k) false ≡ true)
-    → (j : ℕ) → HasArc g x j → j < k + 1 → get_or qs x 0 + get_or qs (to_of g j) 0 ≡ cost_at g j + MISS → get_or new (to_of g j) false ≡ true
+    → ((j : ℕ) → HasArc g x j → j < k → get_or qs x 0 + get_or qs (to_of g j) 0 ≡ cost_at g j + miss_cost → get_or seen (to_of g j) false ≡ true)
+    → (get_or qs x 0 + get_or qs (to_of g k) 0 ≡ cost_at g k + miss_cost → get_or new (to_of g k) false ≡ true)
+    → (j : ℕ) → HasArc g x j → j < k + 1 → get_or qs x 0 + get_or qs (to_of g j) 0 ≡ cost_at g j + miss_cost → get_or new (to_of g j) false ≡ true
 arcs_next g qs seen new x k more before here j a l t = elim (cases_lt j k) [
   | inl b ↦ more (to_of g j) (before j a b t)
   | inr b ↦
       let e : j ≡ k = omega arith in
-      subst (λ (i : ℕ). get_or qs x 0 + get_or qs (to_of g i) 0 ≡ cost_at g i + MISS → get_or new (to_of g i) false ≡ true) (sym e) here t
+      subst (λ (i : ℕ). get_or qs x 0 + get_or qs (to_of g i) 0 ≡ cost_at g i + miss_cost → get_or new (to_of g i) false ≡ true) (sym e) here t
 ]

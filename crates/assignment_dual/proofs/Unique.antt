@@ -1,6 +1,6 @@
 -- There is one least pairing, and batches whose rows agree have the same.
 use Rattle.std.proofs.Common.{◌≡◌, ◌<◌, ◌∙◌, ap, sym, refl, ℕ, suc, List, [], ◌∷◌, length, Option, Some, None, is_some, arith, subst, inl, inr}
-use Rattle.assignment_dual.specs.Pairings.{Row, gate_cost, AllGate, IsPairing, cost, EntryBefore, NotAfter, ComesFirst, IsLeast}
+use Rattle.assignment_dual.specs.Pairings.{Row, paired_cost, AllGate, IsPairing, cost, EntryBefore, NotAfter, ComesFirst, IsLeast}
 use Rattle.assignment_dual.specs.Rests.{row_at}
 use Rattle.assignment_dual.specs.Problems.{Problem, IsProblem, rows_of}
 use Rattle.assignment_dual.specs.Least.{least_pairing, AreAlike}
@@ -74,7 +74,7 @@ same_cost [] (other ∷ others) xs a = absurd a
 same_cost (row ∷ rows) [] xs a = absurd a
 same_cost (row ∷ rows) (other ∷ others) [] a = refl
 same_cost (row ∷ rows) (other ∷ others) (None ∷ xs) a = omega (arith, same_cost rows others xs a.1)
-same_cost (row ∷ rows) (other ∷ others) (Some t ∷ xs) a = omega (arith, ap gate_cost (a.0 t), same_cost rows others xs a.1)
+same_cost (row ∷ rows) (other ∷ others) (Some t ∷ xs) a = omega (arith, ap paired_cost (a.0 t), same_cost rows others xs a.1)
 
 pub alike_least : (rows others : List Row) (xs : List (Option ℕ)) → AreAlike rows others → IsLeast rows xs → IsLeast others xs
 alike_least rows others xs h l =

@@ -3,7 +3,7 @@ use Rattle.std.proofs.Common.{◌≡◌, ◌≤◌, ◌<◌, ℕ, zero, suc, ◌
 use Rattle.std.proofs.lemmas.List.{get_or-drop}
 use Rattle.std.proofs.lemmas.List.Sums.{sum_by-cons}
 use Rattle.assignment_dual.specs.declared.graph.Graph.{Graph}
-use Rattle.assignment_dual.specs.Vertices.{IsGraph, AreResting}
+use Rattle.assignment_dual.specs.Vertices.{IsGraph, IsOptimal}
 use Rattle.assignment_dual.specs.Search.{unseen}
 use Rattle.assignment_dual.specs.Pairings.{Row, cost, IsPairing}
 use Rattle.assignment_dual.specs.Rests.{ShowsRest}
@@ -75,7 +75,7 @@ drop_twice {A} a (suc b) [] = drop_nil a ∙ sym (drop_nil {A = A} (suc b + a))
 drop_twice a (suc b) (x ∷ xs) = drop_twice a b xs ∙ ap (λ (j : ℕ). drop j (x ∷ xs)) (suc_add b a)
 
 -- all prices together are the cost and 4097 for each track that is left
-pub resting_value : {g : Graph} {n tracks p : ℕ} {qs ms us ws : List ℕ} {gone : List Bool} {rows : List Row} {xs : List (Option ℕ)} → IsGraph g n → AreResting g n qs ms gone → length gone ≡ n
+pub resting_value : {g : Graph} {n tracks p : ℕ} {qs ms us ws : List ℕ} {gone : List Bool} {rows : List Row} {xs : List (Option ℕ)} → IsGraph g n → IsOptimal g n qs ms gone → length gone ≡ n
     → ShowsRest g n tracks gone p rows → IsReadRest g.plots tracks gone p qs ms xs us ws → sum qs ≡ cost rows xs + 4097 * unseen (drop g.plots gone)
 resting_value {g} {n} {tracks} {p} {qs} {ms} {us} {ws} {gone} {rows} {xs} gr re lg sh rd =
     let pr : IsPairing rows xs × Balances rows xs us ws = resting_prove gr re sh rd in

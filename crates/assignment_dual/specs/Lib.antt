@@ -11,3 +11,4 @@ pub mod Graphs
 pub mod Renumbering
 pub mod Parts
 pub mod Least
+pub mod Single

@@ -1,22 +1,19 @@
 -- The pairings of a batch of plots with tracks, their cost and their order.
+use Rattle.trk_base.specs.Limits.{miss_cost}
 use Rattle.std.specs.Prelude.{◌≡◌, ◌≢◌, ◌<◌, ◌⊎◌, ℕ, ◌+◌, List, [], ◌∷◌, Bool, true, false, Option, Some, None, IsSome}
 
 -- what each track costs that gates a plot
 abbrev pub Row : Type 0
 Row = ℕ → Option ℕ
 
--- what a plot costs that gets no track
-abbrev pub MISS : ℕ
-MISS = 4097
-
 -- the cost of a gate, 0 where there is none
-abbrev pub gate_cost : Option ℕ → ℕ
-gate_cost None = 0
-gate_cost (Some c) = c
+abbrev pub paired_cost : Option ℕ → ℕ
+paired_cost None = 0
+paired_cost (Some c) = c
 
 abbrev pub entry_cost : Row → Option ℕ → ℕ
-entry_cost row None = MISS
-entry_cost row (Some t) = gate_cost (row t)
+entry_cost row None = miss_cost
+entry_cost row (Some t) = paired_cost (row t)
 
 -- the track named, if any, gates the plot
 abbrev pub Gates : Row → Option ℕ → Type 0

@@ -1,7 +1,8 @@
 -- The assignment problem of a batch, and prices that prove a pairing of it.
 use Rattle.std.specs.Prelude.{◌≡◌, ◌<◌, ◌≤◌, ◌⊎◌, ℕ, ◌==◌, ◌&&◌, ℤ, pos, ◌+ℤ◌, ◌≤ℤ◌, List, [], ◌∷◌, Option, Some, None, IfSome, if◌then◌else◌, length, get_or, map}
 use Rattle.std.specs.List.{All, fold, range_with_len}
-use Rattle.assignment_dual.specs.Pairings.{Row, MISS, IsPairing, IsLeast, cost}
+use Rattle.trk_base.specs.Limits.{gate_cost, miss_cost}
+use Rattle.assignment_dual.specs.Pairings.{Row, IsPairing, IsLeast, cost}
 
 -- the place of a plot, the place of a track that gates it, and the cost of the gate
 abbrev pub Edge : Type 0
@@ -25,7 +26,7 @@ pub record IsProblem (p : Problem) : Type 0 where
   pub rising : (i j : ℕ) → i < j → j < length p.edges → EdgeBefore (edge_at p.edges i) (edge_at p.edges j)
   pub plots : All (λ e. e.0 < p.plots) p.edges
   pub tracks : All (λ e. e.1 < p.tracks) p.edges
-  pub costs : All (λ e. e.2 ≤ 4096) p.edges
+  pub costs : All (λ e. e.2 ≤ gate_cost) p.edges
 
 -- what the tracks cost that have an edge with this plot
 abbrev pub row_of : List Edge → ℕ → Row
@@ -48,7 +49,7 @@ pub record Proves (p : Problem) (xs : List (Option ℕ)) (us vs : List ℤ) : Ty
   pub pairing : IsPairing (rows_of p) xs
   pub plot_prices : length us ≡ p.plots
   pub track_prices : length vs ≡ p.tracks
-  pub below_miss : All (λ u. u ≤ℤ pos MISS) us
+  pub below_miss : All (λ u. u ≤ℤ pos miss_cost) us
   pub below_zero : All (λ v. v ≤ℤ pos 0) vs
   pub below_cost : All (λ e. (price_at us e.0 +ℤ price_at vs e.1) ≤ℤ pos e.2) p.edges
   pub equal : total us +ℤ total vs ≡ pos (cost (rows_of p) xs)

@@ -2,7 +2,7 @@
 use Rattle.std.specs.Prelude.{◌≡◌, ◌≢◌, ◌≤◌, ◌<◌, ◌⊎◌, ℕ, ◌+◌, List, Bool, true, false, length, get_or, count_by, not}
 use Rattle.assignment_dual.specs.declared.graph.Graph.{Graph}
 use Rattle.assignment_dual.specs.declared.search.Node.{Node}
-use Rattle.assignment_dual.specs.Pairings.{MISS}
+use Rattle.trk_base.specs.Limits.{miss_cost}
 use Rattle.assignment_dual.specs.Vertices.{Across, HasArc, to_of, cost_at, Tight}
 
 -- only vertices on the other side than x are seen
@@ -14,8 +14,8 @@ unseen seen = count_by not seen
 
 -- each tight arc of x leads to one that is seen, and x may not be alone
 pub record IsSwept (g : Graph) (qs : List ℕ) (seen : List Bool) (x : ℕ) : Type 0 where
-  pub below : get_or qs x 0 ≢ MISS
-  pub arcs : (k : ℕ) → HasArc g x k → get_or qs x 0 + get_or qs (to_of g k) 0 ≡ cost_at g k + MISS → get_or seen (to_of g k) false ≡ true
+  pub below : get_or qs x 0 ≢ miss_cost
+  pub arcs : (k : ℕ) → HasArc g x k → get_or qs x 0 + get_or qs (to_of g k) 0 ≡ cost_at g k + miss_cost → get_or seen (to_of g k) false ≡ true
 
 abbrev pub no_node : Node
 no_node = record { vertex = 0; from = 0 }
@@ -51,7 +51,7 @@ pub record ArePaired (ms : List ℕ) (tree : List Node) (upto : ℕ) : Type 0 wh
 pub record IsEnd (qs ms : List ℕ) (tree : List Node) (e : ℕ) : Type 0 where
   pub inside : e < length tree
   pub before : ArePaired ms tree e
-  pub pays : get_or qs (mate_at ms tree e) 0 ≡ MISS
+  pub pays : get_or qs (mate_at ms tree e) 0 ≡ miss_cost
 
 -- the tree grows no more
 pub record IsExhausted (g : Graph) (qs ms : List ℕ) (seen : List Bool) (tree : List Node) : Type 0 where
@@ -59,17 +59,17 @@ pub record IsExhausted (g : Graph) (qs ms : List ℕ) (seen : List Bool) (tree :
   pub swept : (i : ℕ) → i < length tree → IsSwept g qs seen (mate_at ms tree i)
 
 -- the nodes that were there are there
-pub record GoesOn (tree new : List Node) : Type 0 where
+pub record IsExtended (tree new : List Node) : Type 0 where
   pub longer : length tree ≤ length new
   pub same : (i : ℕ) → i < length tree → get_or new i no_node ≡ get_or tree i no_node
 
 -- x has been placed: whoever is alone now pays for it or was so before, and who stood out does still
-pub record IsPlaced (n : ℕ) (qs ms new : List ℕ) (x : ℕ) : Type 0 where
-  pub alone : (v : ℕ) → v < n → get_or new v 0 ≡ v → (get_or qs v 0 ≡ MISS) ⊎ ((v ≢ x) × (get_or ms v 0 ≡ v))
-  pub out : (v : ℕ) → v < n → v ≢ x → get_or ms v 0 ≡ v → get_or qs v 0 ≢ MISS → get_or new v 0 ≡ v
+pub record IsMatchedAfter (n : ℕ) (qs ms new : List ℕ) (x : ℕ) : Type 0 where
+  pub alone : (v : ℕ) → v < n → get_or new v 0 ≡ v → (get_or qs v 0 ≡ miss_cost) ⊎ ((v ≢ x) × (get_or ms v 0 ≡ v))
+  pub out : (v : ℕ) → v < n → v ≢ x → get_or ms v 0 ≡ v → get_or qs v 0 ≢ miss_cost → get_or new v 0 ≡ v
 
 -- x and y are mates, and y's mate z is alone
-pub record AreTurned (ms new : List ℕ) (x y z : ℕ) : Type 0 where
+pub record AreRematched (ms new : List ℕ) (x y z : ℕ) : Type 0 where
   pub count : length new ≡ length ms
   pub x_is : get_or new x 0 ≡ y
   pub y_is : get_or new y 0 ≡ x
@@ -77,7 +77,7 @@ pub record AreTurned (ms new : List ℕ) (x y z : ℕ) : Type 0 where
   pub others : (v : ℕ) → v ≢ x → v ≢ y → v ≢ z → get_or new v 0 ≡ get_or ms v 0
 
 -- x and its mate y are alone
-pub record AreParted (ms new : List ℕ) (x y : ℕ) : Type 0 where
+pub record AreUnmatched (ms new : List ℕ) (x y : ℕ) : Type 0 where
   pub count : length new ≡ length ms
   pub x_is : get_or new x 0 ≡ x
   pub y_is : get_or new y 0 ≡ y

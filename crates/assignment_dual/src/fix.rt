@@ -3,12 +3,12 @@
 ghost use Rattle.std.specs.Prelude.{◌≡◌, ◌≢◌, ◌<◌, ◌+◌, length, get_or, true, false, slice_set, sum, OnOk};
 ghost use Rattle.assignment_dual.specs.declared.graph.Graph.{Graph};
 ghost use Rattle.assignment_dual.specs.Search.{NoneSeen};
-ghost use Rattle.assignment_dual.specs.Vertices.{IsGraph, AreResting};
+ghost use Rattle.assignment_dual.specs.Vertices.{IsGraph, IsOptimal};
 
+use crate::augmenting::augment;
 use crate::graph::Graph;
-use crate::place::settle;
 use crate::prices::Prices;
-use crate::search::{Node, part};
+use crate::search::{Node, unmatch};
 use trk_base::NoMemory;
 
 /// Takes x out; its mate gets another place.
@@ -22,21 +22,21 @@ pub fn take_out(
     x: usize,
 ) -> Result<(), NoMemory>
     requires graph { IsGraph graph.now (length prices.old) }
-    requires resting { AreResting graph.now (length prices.old) prices.old mates.old gone.old }
+    requires resting { IsOptimal graph.now (length prices.old) prices.old mates.old gone.old }
     requires seen { length seen.old ≡ length prices.old }
     requires none_seen { NoneSeen seen.old }
     requires count { length gone.old ≡ length prices.old }
     requires x { x < length prices.old }
     requires here { get_or gone.old x false ≡ false }
     ensures gone { OnOk result (gone.new ≡ slice_set gone.old x true) }
-    ensures resting { OnOk result (AreResting graph.now (length prices.old) prices.new mates.new gone.new) }
+    ensures resting { OnOk result (IsOptimal graph.now (length prices.old) prices.new mates.new gone.new) }
     ensures none_seen { OnOk result (NoneSeen seen.new) }
 {
     gone[x] = true;
     prices.set(x, 0);
-    let y = part(mates, x);
+    let y = unmatch(mates, x);
     if y != x {
-        settle(graph, prices, mates, seen, tree, y)?;
+        augment(graph, prices, mates, seen, tree, y)?;
     }
     Ok(())
 }
@@ -52,18 +52,18 @@ pub fn put_back(
     x: usize,
 ) -> Result<(), NoMemory>
     requires graph { IsGraph graph.now (length prices.old) }
-    requires resting { AreResting graph.now (length prices.old) prices.old mates.old gone.old }
+    requires resting { IsOptimal graph.now (length prices.old) prices.old mates.old gone.old }
     requires seen { length seen.old ≡ length prices.old }
     requires none_seen { NoneSeen seen.old }
     requires count { length gone.old ≡ length prices.old }
     requires x { x < length prices.old }
     requires away { get_or gone.old x false ≡ true }
     ensures gone { OnOk result (gone.new ≡ slice_set gone.old x false) }
-    ensures resting { OnOk result (AreResting graph.now (length prices.old) prices.new mates.new gone.new) }
+    ensures resting { OnOk result (IsOptimal graph.now (length prices.old) prices.new mates.new gone.new) }
     ensures none_seen { OnOk result (NoneSeen seen.new) }
 {
     gone[x] = false;
-    settle(graph, prices, mates, seen, tree, x)
+    augment(graph, prices, mates, seen, tree, x)
 }
 
 /// Takes x and its mate, which is answered, out together. Nobody needs another place.
@@ -76,9 +76,9 @@ pub fn take_pair(prices: &mut Prices, mates: &mut [usize], gone: &mut [bool], x:
     ensures mate { result ≡ get_or mates.old x 0 }
     ensures gone { gone.new ≡ slice_set (slice_set gone.old x true) result true }
     ensures sum { sum prices.new + (get_or prices.old x 0 + get_or prices.old result 0) ≡ sum prices.old }
-    ensures resting { (g : Graph) → AreResting g (length prices.old) prices.old mates.old gone.old → AreResting g (length prices.old) prices.new mates.new gone.new }
+    ensures resting { (g : Graph) → IsOptimal g (length prices.old) prices.old mates.old gone.old → IsOptimal g (length prices.old) prices.new mates.new gone.new }
 {
-    let y = part(mates, x);
+    let y = unmatch(mates, x);
     prices.set(x, 0);
     prices.set(y, 0);
     gone[x] = true;

@@ -12,15 +12,16 @@
 //! equal cost needs both: it takes them out one by one.
 #![tactic(auto)]
 
+mod augmenting;
 mod build;
 mod costs;
 mod fix;
 mod graph;
 mod laws;
-mod place;
 mod prices;
 mod raise;
 mod search;
+mod single;
 mod solving;
 #[cfg(test)]
 mod tests;

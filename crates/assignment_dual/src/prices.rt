@@ -1,12 +1,9 @@
 //! The prices of all vertices.
 
 ghost use Rattle.std.specs.Prelude.{◌≡◌, ◌≤◌, ◌<◌, ◌*◌, ℕ, ◌^◌, length, get_or, slice_set, sum};
-ghost use Rattle.assignment_dual.specs.Pairings.{MISS};
+ghost use Rattle.trk_base.specs.Limits.{miss_cost};
 
 use std::marker::Model;
-
-/// What a vertex pays that stays alone. No price is higher.
-pub const ALONE: u32 = 4097;
 
 /// The prices of all vertices, with their sum, which is kept while they move. Contracts see the
 /// list of the prices.
@@ -18,7 +15,7 @@ pub struct Prices {
 
 impl Model for Prices {
     ghost use Rattle.std.specs.Prelude.{◌≡◌, ◌≤◌, ◌<◌, ◌^◌, ℕ, List, length, get_or, sum};
-    ghost use Rattle.assignment_dual.specs.Pairings.{MISS};
+    ghost use Rattle.trk_base.specs.Limits.{miss_cost};
 
     ghost Value = { List ℕ };
 
@@ -33,7 +30,7 @@ impl Prices {
     /// These prices.
     pub fn of(each: Vec<u32>) -> Prices
         requires few { length each.items < 2 ^ 40 }
-        requires small { (v : ℕ) → get_or each.items v 0 ≤ MISS }
+        requires small { (v : ℕ) → get_or each.items v 0 ≤ miss_cost }
         ensures { result ≡ each.items }
     {
         let total = sum_of(&each);
@@ -51,7 +48,7 @@ impl Prices {
     pub fn at(&self, v: usize) -> u32
         requires { v < length self.now }
         ensures price { result ≡ get_or self.now v 0 }
-        ensures small { result ≤ MISS }
+        ensures small { result ≤ miss_cost }
     {
         self.each[v]
     }
@@ -59,7 +56,7 @@ impl Prices {
     /// The vertex v gets another price.
     pub fn set(&mut self, v: usize, price: u32)
         requires v { v < length self.old }
-        requires small { price ≤ MISS }
+        requires small { price ≤ miss_cost }
         ensures { self.new ≡ slice_set self.old v price }
     {
         self.total = self.total - u64::from(self.each[v]) + u64::from(price);
@@ -85,7 +82,7 @@ impl Prices {
 /// The sum of these prices.
 fn sum_of(prices: &[u32]) -> u64
     requires few { length prices.now < 2 ^ 40 }
-    requires small { (v : ℕ) → get_or prices.now v 0 ≤ MISS }
+    requires small { (v : ℕ) → get_or prices.now v 0 ≤ miss_cost }
     ensures { result ≡ sum prices.now }
 {
     let mut sum = 0;

@@ -1,28 +1,29 @@
 //! Prices rise until a new arc is tight.
 
 ghost use Rattle.std.specs.Prelude.{◌≡◌, ◌≢◌, ◌≤◌, ◌<◌, ℕ, ◌+◌, length, get_or, true, false, Bool, List};
-ghost use Rattle.assignment_dual.specs.Vertices.{IsGraph, IsPriced, AreMates, HasArc, to_of, cost_at};
+ghost use Rattle.assignment_dual.specs.Vertices.{IsGraph, IsDualFeasible, AreMatched, HasArc, to_of, cost_at};
 ghost use Rattle.assignment_dual.specs.Search.{IsSwept, vertex_at, mate_at, IsSearchTree, IsExhausted};
-ghost use Rattle.assignment_dual.specs.Rising.{HasRoom, AllHaveRoom, MayShift, AreRaised, AreShifted};
+ghost use Rattle.assignment_dual.specs.Rising.{HasSlack, AllHaveSlack, MayShift, AreRaised, AreShifted};
 
 use crate::graph::Graph;
-use crate::prices::{ALONE, Prices};
+use crate::prices::Prices;
 use crate::search::{Node, mate_of, slack};
+use trk_base::MISS_COST;
 
 /// How far the price of x may rise.
-fn room(graph: &Graph, prices: &Prices, seen: &[bool], x: usize) -> u32
+fn vertex_slack(graph: &Graph, prices: &Prices, seen: &[bool], x: usize) -> u32
     requires graph { IsGraph graph.now (length prices.now) }
-    requires priced { IsPriced graph.now (length prices.now) prices.now }
+    requires priced { IsDualFeasible graph.now (length prices.now) prices.now }
     requires seen { length seen.now ≡ length prices.now }
     requires x { x < length prices.now }
     requires swept { IsSwept graph.now prices.now seen.now x }
     ensures some { 0 < result }
-    ensures room { HasRoom graph.now prices.now seen.now x result }
-    ensures greatest { (d : ℕ) → HasRoom graph.now prices.now seen.now x d → d ≤ result }
+    ensures room { HasSlack graph.now prices.now seen.now x result }
+    ensures greatest { (d : ℕ) → HasSlack graph.now prices.now seen.now x d → d ≤ result }
 {
-    let mut room = ALONE - prices.at(x);
+    let mut room = MISS_COST - prices.at(x);
     for k in graph.first[x]..graph.first[x + 1] {
-        let free = arc_room(graph, prices, seen, x, k);
+        let free = arc_slack(graph, prices, seen, x, k);
         if free < room {
             room = free;
         }
@@ -31,9 +32,9 @@ fn room(graph: &Graph, prices: &Prices, seen: &[bool], x: usize) -> u32
 }
 
 /// How far the price of x may rise for the sake of the arc k.
-fn arc_room(graph: &Graph, prices: &Prices, seen: &[bool], x: usize, k: usize) -> u32
+fn arc_slack(graph: &Graph, prices: &Prices, seen: &[bool], x: usize, k: usize) -> u32
     requires graph { IsGraph graph.now (length prices.now) }
-    requires priced { IsPriced graph.now (length prices.now) prices.now }
+    requires priced { IsDualFeasible graph.now (length prices.now) prices.now }
     requires seen { length seen.now ≡ length prices.now }
     requires x { x < length prices.now }
     requires arc { HasArc graph.now x k }
@@ -44,13 +45,13 @@ fn arc_room(graph: &Graph, prices: &Prices, seen: &[bool], x: usize, k: usize) -
 {
     let (y, slack) = slack(graph, prices, x, k);
     if seen[y] {
-        return ALONE;
+        return MISS_COST;
     }
     slack
 }
 
 /// How far the prices of all mates in the tree may rise, where the tree grows no more.
-pub fn least_room(
+pub fn least_slack(
     graph: &Graph,
     prices: &Prices,
     mates: &[usize],
@@ -58,18 +59,18 @@ pub fn least_room(
     tree: &[Node],
 ) -> u32
     requires graph { IsGraph graph.now (length prices.now) }
-    requires priced { IsPriced graph.now (length prices.now) prices.now }
-    requires mates { AreMates graph.now (length prices.now) prices.now mates.now }
+    requires priced { IsDualFeasible graph.now (length prices.now) prices.now }
+    requires mates { AreMatched graph.now (length prices.now) prices.now mates.now }
     requires seen { length seen.now ≡ length prices.now }
     requires tree { IsSearchTree graph.now (length prices.now) prices.now mates.now seen.now tree.now (vertex_at tree.now 0) }
     requires exhausted { IsExhausted graph.now prices.now mates.now seen.now tree.now }
     ensures some { 0 < result }
-    ensures room { AllHaveRoom graph.now prices.now mates.now seen.now tree.now result }
-    ensures greatest { (d : ℕ) → AllHaveRoom graph.now prices.now mates.now seen.now tree.now d → d ≤ result }
+    ensures room { AllHaveSlack graph.now prices.now mates.now seen.now tree.now result }
+    ensures greatest { (d : ℕ) → AllHaveSlack graph.now prices.now mates.now seen.now tree.now d → d ≤ result }
 {
-    let mut least = ALONE;
+    let mut least = MISS_COST;
     for i in 0..tree.len() {
-        let free = room(graph, prices, seen, mate_of(mates, tree, i));
+        let free = vertex_slack(graph, prices, seen, mate_of(mates, tree, i));
         if free < least {
             least = free;
         }

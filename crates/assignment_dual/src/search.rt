@@ -1,13 +1,13 @@
 //! A tree of tight arcs is searched for a place for its root.
 
 ghost use Rattle.std.specs.Prelude.{◌≡◌, ◌≢◌, ◌≤◌, ◌<◌, ℕ, ◌+◌, length, get_or, true, false, Bool, List, MatchBool, MatchOption, IfOk, OnOk};
-ghost use Rattle.assignment_dual.specs.Pairings.{MISS};
-ghost use Rattle.assignment_dual.specs.Vertices.{HasArc, to_of, cost_at, IsGraph, IsPriced, TightArc, AreMates, OthersPay};
-ghost use Rattle.assignment_dual.specs.Search.{unseen, IsSwept, vertex_at, mate_at, IsSearchTree, ArePaired, IsEnd, IsExhausted, GoesOn, IsPlaced, AreTurned, AreParted};
+ghost use Rattle.trk_base.specs.Limits.{miss_cost};
+ghost use Rattle.assignment_dual.specs.Vertices.{HasArc, to_of, cost_at, IsGraph, IsDualFeasible, TightArc, AreMatched, OthersPay};
+ghost use Rattle.assignment_dual.specs.Search.{unseen, IsSwept, vertex_at, mate_at, IsSearchTree, ArePaired, IsEnd, IsExhausted, IsExtended, IsMatchedAfter, AreRematched, AreUnmatched};
 
 use crate::graph::Graph;
-use crate::prices::{ALONE, Prices};
-use trk_base::NoMemory;
+use crate::prices::Prices;
+use trk_base::{MISS_COST, NoMemory};
 
 /// A vertex that a search has seen. Its mate belongs to the tree with it.
 #[derive(Clone, Copy)]
@@ -30,29 +30,29 @@ pub fn mate_of(mates: &[usize], tree: &[Node], i: usize) -> usize
 /// Where the arc k of x leads, and how much more the two prices may be together.
 pub fn slack(graph: &Graph, prices: &Prices, x: usize, k: usize) -> (usize, u32)
     requires graph { IsGraph graph.now (length prices.now) }
-    requires priced { IsPriced graph.now (length prices.now) prices.now }
+    requires priced { IsDualFeasible graph.now (length prices.now) prices.now }
     requires x { x < length prices.now }
     requires arc { HasArc graph.now x k }
     ensures to { result.0 ≡ to_of graph.now k }
     ensures within { result.0 < length prices.now }
-    ensures slack { get_or prices.now x 0 + get_or prices.now (to_of graph.now k) 0 + result.1 ≡ cost_at graph.now k + MISS }
+    ensures slack { get_or prices.now x 0 + get_or prices.now (to_of graph.now k) 0 + result.1 ≡ cost_at graph.now k + miss_cost }
 {
     let arc = graph.arcs[k];
     (
         arc.to,
-        arc.cost + ALONE - (prices.at(x) + prices.at(arc.to)),
+        arc.cost + MISS_COST - (prices.at(x) + prices.at(arc.to)),
     )
 }
 
 /// Where the arc k of x leads, if it is tight and leads to a vertex that isn't seen.
 fn opens(graph: &Graph, prices: &Prices, seen: &[bool], x: usize, k: usize) -> Option<usize>
     requires graph { IsGraph graph.now (length prices.now) }
-    requires priced { IsPriced graph.now (length prices.now) prices.now }
+    requires priced { IsDualFeasible graph.now (length prices.now) prices.now }
     requires seen { length seen.now ≡ length prices.now }
     requires x { x < length prices.now }
     requires arc { HasArc graph.now x k }
     ensures answer { MatchOption result
-        (get_or prices.now x 0 + get_or prices.now (to_of graph.now k) 0 ≡ cost_at graph.now k + MISS → get_or seen.now (to_of graph.now k) false ≡ true)
+        (get_or prices.now x 0 + get_or prices.now (to_of graph.now k) 0 ≡ cost_at graph.now k + miss_cost → get_or seen.now (to_of graph.now k) false ≡ true)
         (λ y. TightArc graph.now prices.now x y k × (y < length prices.now) × (get_or seen.now y false ≡ false)) }
 {
     let (y, slack) = slack(graph, prices, x, k);
@@ -73,18 +73,18 @@ fn sweep(
     at: usize,
 ) -> Result<Option<usize>, NoMemory>
     requires graph { IsGraph graph.now (length prices.now) }
-    requires priced { IsPriced graph.now (length prices.now) prices.now }
-    requires mates { AreMates graph.now (length prices.now) prices.now mates.now }
+    requires priced { IsDualFeasible graph.now (length prices.now) prices.now }
+    requires mates { AreMatched graph.now (length prices.now) prices.now mates.now }
     requires pay { OthersPay (length prices.now) prices.now mates.now (vertex_at tree.old.items 0) }
     requires alone { mate_at mates.now tree.old.items 0 ≡ vertex_at tree.old.items 0 }
     requires seen { length seen.old ≡ length prices.now }
     requires tree { IsSearchTree graph.now (length prices.now) prices.now mates.now seen.old tree.old.items (vertex_at tree.old.items 0) }
     requires paired { ArePaired mates.now tree.old.items (length tree.old.items) }
     requires at { at < length tree.old.items }
-    requires below { get_or prices.now (mate_at mates.now tree.old.items at) 0 ≢ MISS }
+    requires below { get_or prices.now (mate_at mates.now tree.old.items at) 0 ≢ miss_cost }
     ensures tree { OnOk result (IsSearchTree graph.now (length prices.now) prices.now mates.now seen.new tree.new.items (vertex_at tree.old.items 0)) }
     ensures kept { OnOk result ((y : ℕ) → get_or seen.old y false ≡ true → get_or seen.new y false ≡ true) }
-    ensures front { OnOk result (GoesOn tree.old.items tree.new.items) }
+    ensures front { OnOk result (IsExtended tree.old.items tree.new.items) }
     ensures grown { OnOk result (length tree.new.items + unseen seen.new ≡ length tree.old.items + unseen seen.old) }
     ensures answer { IfOk result (λ end. MatchOption end
         (ArePaired mates.now tree.new.items (length tree.new.items) × IsSwept graph.now prices.now seen.new (mate_at mates.now tree.old.items at))
@@ -116,8 +116,8 @@ fn grow(
     tree: &mut Vec<Node>,
 ) -> Result<Option<usize>, NoMemory>
     requires graph { IsGraph graph.now (length prices.now) }
-    requires priced { IsPriced graph.now (length prices.now) prices.now }
-    requires mates { AreMates graph.now (length prices.now) prices.now mates.now }
+    requires priced { IsDualFeasible graph.now (length prices.now) prices.now }
+    requires mates { AreMatched graph.now (length prices.now) prices.now mates.now }
     requires pay { OthersPay (length prices.now) prices.now mates.now (vertex_at tree.old.items 0) }
     requires alone { mate_at mates.now tree.old.items 0 ≡ vertex_at tree.old.items 0 }
     requires seen { length seen.old ≡ length prices.now }
@@ -130,7 +130,7 @@ fn grow(
 {
     let mut next = 0;
     'nodes: while next < tree.len() {
-        if prices.at(mate_of(mates, tree, next)) == ALONE {
+        if prices.at(mate_of(mates, tree, next)) == MISS_COST {
             return Ok(Some(next));
         }
         if let Some(end) = sweep(graph, prices, mates, seen, tree, next)? {
@@ -142,11 +142,11 @@ fn grow(
 }
 
 /// Parts x from its mate, which is answered.
-pub fn part(mates: &mut [usize], x: usize) -> usize
+pub fn unmatch(mates: &mut [usize], x: usize) -> usize
     requires x { x < length mates.old }
     requires mate { get_or mates.old x 0 < length mates.old }
     ensures mate { result ≡ get_or mates.old x 0 }
-    ensures parted { AreParted mates.old mates.new x result }
+    ensures parted { AreUnmatched mates.old mates.new x result }
 {
     let y = mates[x];
     mates[y] = y;
@@ -162,7 +162,7 @@ fn take(mates: &mut [usize], x: usize, y: usize) -> usize
     requires other { x ≢ y }
     requires apart { get_or mates.old y 0 ≢ x }
     ensures value { result ≡ get_or mates.old y 0 }
-    ensures turned { AreTurned mates.old mates.new x y result }
+    ensures turned { AreRematched mates.old mates.new x y result }
 {
     let z = mates[y];
     mates[z] = z;
@@ -181,23 +181,23 @@ pub fn reach(
     tree: &mut Vec<Node>,
 ) -> Result<bool, NoMemory>
     requires graph { IsGraph graph.now (length prices.now) }
-    requires priced { IsPriced graph.now (length prices.now) prices.now }
-    requires mates { AreMates graph.now (length prices.now) prices.now mates.old }
+    requires priced { IsDualFeasible graph.now (length prices.now) prices.now }
+    requires mates { AreMatched graph.now (length prices.now) prices.now mates.old }
     requires pay { OthersPay (length prices.now) prices.now mates.old (vertex_at tree.old.items 0) }
     requires alone { mate_at mates.old tree.old.items 0 ≡ vertex_at tree.old.items 0 }
     requires seen { length seen.old ≡ length prices.now }
     requires tree { IsSearchTree graph.now (length prices.now) prices.now mates.old seen.old tree.old.items (vertex_at tree.old.items 0) }
     requires paired { ArePaired mates.old tree.old.items (length tree.old.items) }
-    ensures mates { OnOk result (AreMates graph.now (length prices.now) prices.now mates.new) }
+    ensures mates { OnOk result (AreMatched graph.now (length prices.now) prices.now mates.new) }
     ensures tree { OnOk result (IsSearchTree graph.now (length prices.now) prices.now mates.old seen.new tree.new.items (vertex_at tree.old.items 0)) }
     ensures answer { IfOk result (λ placed. MatchBool placed
-        (IsPlaced (length prices.now) prices.now mates.old mates.new (vertex_at tree.old.items 0))
+        (IsMatchedAfter (length prices.now) prices.now mates.old mates.new (vertex_at tree.old.items 0))
         ((mates.new ≡ mates.old) × IsExhausted graph.now prices.now mates.old seen.new tree.new.items)) }
 {
     let Some(end) = grow(graph, prices, mates, seen, tree)? else {
         return Ok(false);
     };
-    part(mates, tree[end].vertex);
+    unmatch(mates, tree[end].vertex);
     let mut at = end;
     'path: while at > 0 {
         let node = tree[at];

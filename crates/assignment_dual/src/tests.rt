@@ -21,8 +21,8 @@ fn bare(alloc: Global, plots: u32, tracks: u32) -> Costs
     }
 }
 
-/// Whether an edge comes behind all others.
-fn is_behind(edges: &[(u32, u32, u16)], edge: (u32, u32, u16)) -> bool
+/// Whether an edge comes after all others.
+fn is_after(edges: &[(u32, u32, u16)], edge: (u32, u32, u16)) -> bool
     ensures { IsTrue result → (i : ℕ) → i + 1 ≡ length edges.now → EdgeBefore (edge_at edges.now i) edge }
 {
     if edges.is_empty() {
@@ -32,12 +32,12 @@ fn is_behind(edges: &[(u32, u32, u16)], edge: (u32, u32, u16)) -> bool
     plot < edge.0 || plot == edge.0 && track < edge.1
 }
 
-/// The problem with one more edge behind the others, if that is its place.
+/// The problem with one more edge after the others, if that is its place.
 fn with_edge(mut costs: Costs, edge: (u32, u32, u16)) -> Result<Costs, NoMemory> {
     if edge.0 >= costs.plots || edge.1 >= costs.tracks || edge.2 > 4096 {
         return Ok(costs);
     }
-    if is_behind(costs.edges.as_slice(), edge) {
+    if is_after(costs.edges.as_slice(), edge) {
         costs.edges.push(edge)?;
     }
     Ok(costs)

@@ -1,23 +1,24 @@
 //! Of all pairings of least cost the first one, plot by plot.
 
 ghost use Rattle.std.specs.Prelude.{◌≡◌, ◌≢◌, ◌≤◌, ◌<◌, ◌↔◌, ℕ, ◌+◌, ◌^◌, ◌∷◌, [], length, vec_len, get_or, true, false, Bool, List, IsTrue, MatchBool, OnOk, IfOk};
-ghost use Rattle.assignment_dual.specs.Pairings.{Row, MISS, IsLeast};
+ghost use Rattle.trk_base.specs.Limits.{miss_cost};
+ghost use Rattle.assignment_dual.specs.Pairings.{Row, IsLeast};
 ghost use Rattle.assignment_dual.specs.Search.{NoneSeen};
-ghost use Rattle.assignment_dual.specs.Vertices.{HasArc, to_of, IsGraph, IsPriced, AreResting};
+ghost use Rattle.assignment_dual.specs.Vertices.{HasArc, to_of, IsGraph, IsDualFeasible, IsOptimal};
 ghost use Rattle.assignment_dual.specs.Rests.{ShowsRest};
 ghost use Rattle.assignment_dual.specs.Choices.{IsCandidate, AreCandidates, IsFixedBy};
 
 use crate::fix::{put_back, take_out, take_pair};
 use crate::graph::Graph;
-use crate::prices::{ALONE, Prices};
+use crate::prices::Prices;
 use crate::search::{Node, slack};
 use std::alloc::Global;
-use trk_base::NoMemory;
+use trk_base::{MISS_COST, NoMemory};
 
 /// Whether the arc k of p is tight, and its track isn't gone.
 fn is_candidate(graph: &Graph, prices: &Prices, gone: &[bool], p: usize, k: usize) -> bool
     requires graph { IsGraph graph.now (length prices.now) }
-    requires priced { IsPriced graph.now (length prices.now) prices.now }
+    requires priced { IsDualFeasible graph.now (length prices.now) prices.now }
     requires count { length gone.now ≡ length prices.now }
     requires p { p < length prices.now }
     requires arc { HasArc graph.now p k }
@@ -36,7 +37,7 @@ fn candidates(
     tight: &mut Vec<usize>,
 ) -> Result<(), NoMemory>
     requires graph { IsGraph graph.now (length prices.now) }
-    requires priced { IsPriced graph.now (length prices.now) prices.now }
+    requires priced { IsDualFeasible graph.now (length prices.now) prices.now }
     requires count { length gone.now ≡ length prices.now }
     requires p { p < length prices.now }
     requires empty { tight.old.items ≡ [] }
@@ -73,7 +74,7 @@ fn fix_plot(
     p: usize,
 ) -> Result<Option<u32>, NoMemory>
     requires graph { IsGraph graph.now (length prices.old) }
-    requires resting { AreResting graph.now (length prices.old) prices.old mates.old gone.old }
+    requires resting { IsOptimal graph.now (length prices.old) prices.old mates.old gone.old }
     requires seen { length seen.old ≡ length prices.old }
     requires none_seen { NoneSeen seen.old }
     requires count { length gone.old ≡ length prices.old }
@@ -82,7 +83,7 @@ fn fix_plot(
     requires p { p < graph.now.plots }
     requires here { get_or gone.old p false ≡ false }
     requires tight { AreCandidates graph.now prices.old gone.old p tight.now }
-    ensures resting { OnOk result (AreResting graph.now (length prices.old) prices.new mates.new gone.new) }
+    ensures resting { OnOk result (IsOptimal graph.now (length prices.old) prices.new mates.new gone.new) }
     ensures none_seen { OnOk result (NoneSeen seen.new) }
     ensures others { OnOk result ((v : ℕ) → v < graph.now.plots → v ≢ p → get_or gone.new v false ≡ get_or gone.old v false) }
     ensures fixed { IfOk result (λ x. (tracks : ℕ) (row : Row) (rows : List Row) → ShowsRest graph.now (length prices.old) tracks gone.old p (row ∷ rows)
@@ -97,7 +98,7 @@ fn fix_plot(
     for k in tight {
         let arc = graph.arcs[*k];
         take_out(graph, prices, mates, seen, tree, gone, arc.to)?;
-        if u64::from(arc.cost + ALONE) + prices.sum() == whole {
+        if u64::from(arc.cost + MISS_COST) + prices.sum() == whole {
             return Ok(Some((arc.to - graph.plots) as u32));
         }
         put_back(graph, prices, mates, seen, tree, gone, arc.to)?;
@@ -116,7 +117,7 @@ pub fn first_pairing(
     gone: &mut [bool],
 ) -> Result<Vec<Option<u32>>, NoMemory>
     requires graph { IsGraph graph.now (length prices.old) }
-    requires resting { AreResting graph.now (length prices.old) prices.old mates.old gone.old }
+    requires resting { IsOptimal graph.now (length prices.old) prices.old mates.old gone.old }
     requires seen { length seen.old ≡ length prices.old }
     requires none_seen { NoneSeen seen.old }
     requires count { length gone.old ≡ length prices.old }
@@ -125,7 +126,7 @@ pub fn first_pairing(
     requires here { (v : ℕ) → v < graph.now.plots → get_or gone.old v false ≡ false }
     ensures { IfOk result (λ pairing. (tracks : ℕ) (rows : List Row) → ShowsRest graph.now (length prices.old) tracks gone.old 0 rows → IsLeast rows pairing.items) }
 {
-    let mut pairing = Vec::new(alloc);
+    let mut pairing = Vec::with_capacity(alloc, graph.plots)?;
     let mut tight = Vec::new(alloc);
     for p in 0..graph.plots {
         tight.clear();

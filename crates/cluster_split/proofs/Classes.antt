@@ -9,7 +9,7 @@ use Rattle.std.specs.List.Sorted.{IsStrictlyIncreasing, IsNonDecreasingBy, IsPer
 use Rattle.cluster_split.specs.declared.splitting.Component.{Component}
 use Rattle.cluster_split.specs.Walks.{AreConnected, ShareTrack, plot_at, track_at}
 use Rattle.cluster_split.specs.Leasts.{AreLeasts}
-use Rattle.cluster_split.specs.Parts.{AreSettled, ArePlaces, AreGrouped, parts_of, part_of, leasts_below, class_below, is_first, is_first_of}
+use Rattle.cluster_split.specs.Grouping.{AreLabelled, AreIndices, AreGrouped, components_of, component_of, leasts_below, class_below, is_first, is_first_of}
 use Rattle.cluster_split.specs.Components.{least_plot, IsComponent, AreComponents}
 use Rattle.cluster_split.proofs.Walking.{back, same_along, with_more}
 use Rattle.cluster_split.proofs.Labels.{edge_place}
@@ -81,9 +81,9 @@ firsts_rise edges places sorted up all k lt =
 
 -- the component of a least plot
 part_is : (plots : ℕ) (edges : List (ℕ × ℕ)) (least : List ℕ) → AreLeasts plots edges least → IsNonDecreasingBy (λ e. e.1) edges → All (λ e. e.0 < plots) edges → (r : ℕ) → r < plots → get_or least r 0 ≡ r
-    → (least_plot (part_of least edges plots (length edges) r) ≡ r) × IsComponent plots edges (part_of least edges plots (length edges) r)
+    → (least_plot (component_of least edges plots (length edges) r) ≡ r) × IsComponent plots edges (component_of least edges plots (length edges) r)
 part_is plots edges least h sorted in' r lt own =
-    let part = part_of least edges plots (length edges) r in
+    let part = component_of least edges plots (length edges) r in
     let class = class_below least plots r in
     let rise : IsStrictlyIncreasing class = passing_rise _ plots in
     let has : Contains class r = to_class least plots r r lt own in
@@ -124,9 +124,9 @@ part_is plots edges least h sorted in' r lt own =
       },
     )
 
-pub parts_are_components : (plots : ℕ) (edges : List (ℕ × ℕ)) (least : List ℕ) → AreLeasts plots edges least → IsNonDecreasingBy (λ e. e.1) edges → All (λ e. e.0 < plots) edges → AreComponents plots edges (parts_of least edges plots (length edges))
+pub parts_are_components : (plots : ℕ) (edges : List (ℕ × ℕ)) (least : List ℕ) → AreLeasts plots edges least → IsNonDecreasingBy (λ e. e.1) edges → All (λ e. e.0 < plots) edges → AreComponents plots edges (components_of least edges plots (length edges))
 parts_are_components plots edges least h sorted in' =
-    let part = part_of least edges plots (length edges) in
+    let part = component_of least edges plots (length edges) in
     let leasts = leasts_below least plots in
     let test : ℕ → Bool = λ q. eqb (get_or least q 0) q in
     let at : (k d : ℕ) → k < length leasts → (least_plot (part (get_or leasts k d)) ≡ get_or leasts k d) × IsComponent plots edges (part (get_or leasts k d)) = λ k d lt.
@@ -163,22 +163,22 @@ of_same_edges plots a b parts same h =
 -- all steps together
 pub all_steps : (plots : ℕ) (edges by_track : List (ℕ × ℕ)) (least places : List ℕ) (before parts : List Component) → All (λ e. e.0 < plots) edges → IsPermutation edges by_track → IsNonDecreasingBy (λ e. e.1) by_track
     → AreLeasts plots by_track least → AreGrouped least (length least) before places
-    → ((l : List ℕ) → ArePlaces l places → before ≡ parts_of l by_track (length places) 0 → parts ≡ parts_of l by_track (length places) (length by_track))
+    → ((l : List ℕ) → AreIndices l places → before ≡ components_of l by_track (length places) 0 → parts ≡ components_of l by_track (length places) (length by_track))
     → AreComponents plots edges parts
 all_steps plots edges by_track least places before parts in' same sorted h g to =
     let count : length places ≡ plots = g.long ∙ h.long in
-    let e : before ≡ parts_of least by_track (length places) 0 = g.parts_so_far ∙ ap (λ n. parts_of least by_track n 0) (sym g.long) in
-    let is : parts ≡ parts_of least by_track plots (length by_track) = to least g.places_so_far e ∙ ap (λ n. parts_of least by_track n (length by_track)) count in
+    let e : before ≡ components_of least by_track (length places) 0 = g.parts_so_far ∙ ap (λ n. components_of least by_track n 0) (sym g.long) in
+    let is : parts ≡ components_of least by_track plots (length by_track) = to least g.places_so_far e ∙ ap (λ n. components_of least by_track n (length by_track)) count in
     of_same_edges plots by_track edges parts
     (λ x. ((λ c. Contains-permutation by_track edges x (IsPermutation-sym edges by_track same) c), (λ c. Contains-permutation edges by_track x same c)))
     (subst (AreComponents plots by_track) (sym is) (parts_are_components plots by_track least h sorted (All-permutation (λ x. x.0 < plots) edges by_track same in')))
 
-pub settled_leasts : (plots : ℕ) (edges : List (ℕ × ℕ)) (least : List ℕ) → AreLeasts plots edges least → AreSettled least
+pub settled_leasts : (plots : ℕ) (edges : List (ℕ × ℕ)) (least : List ℕ) → AreLeasts plots edges least → AreLabelled least
 settled_leasts plots edges least h = record { below = λ p lt. h.below p (omega (arith, lt, h.long)); settled = λ p lt. h.settled p (omega (arith, lt, h.long)) }
 
 pub few_places : (least places : List ℕ) (n : ℕ) (parts : List Component) → AreGrouped least n parts places → All (λ p. p < length parts) places
 few_places least places n parts g k d lt =
     let h = g.places_so_far.inside k lt in
-    let long : length parts ≡ length (leasts_below least n) = ap length g.parts_so_far ∙ length-map (leasts_below least n) (part_of least [] n 0) in
+    let long : length parts ≡ length (leasts_below least n) = ap length g.parts_so_far ∙ length-map (leasts_below least n) (component_of least [] n 0) in
     let same : length (leasts_below least (length places)) ≡ length (leasts_below least n) = ap (λ m. length (leasts_below least m)) g.long in
     omega (arith, h, long, same, get_or_default places k d 0 lt)

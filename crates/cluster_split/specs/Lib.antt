@@ -1,4 +1,4 @@
 pub mod Walks
 pub mod Components
 pub mod Leasts
-pub mod Parts
+pub mod Grouping

@@ -49,7 +49,7 @@ pub(crate) fn least_plots(
     ensures { IfOk result (λ v. AreLeasts plots by_track.now v.items) }
 {
     let mut lower = own_sets(alloc, plots)?;
-    settle(&mut lower, by_track);
+    label_all(&mut lower, by_track);
     Ok(lower)
 }
 
@@ -66,7 +66,7 @@ fn own_sets(alloc: Global, plots: u32) -> Result<Vec<u32>, NoMemory>
 }
 
 /// From sets of one plot each to the least plot that each plot is connected with.
-fn settle(lower: &mut [u32], by_track: &[(u32, u32)])
+fn label_all(lower: &mut [u32], by_track: &[(u32, u32)])
     requires own { (p : ℕ) → p < length lower.old → slice_index lower.old p ≡ p }
     requires inside { All (λ edge. edge.0 < length lower.old) by_track.now }
     requires sorted { IsNonDecreasingBy (λ edge. edge.1) by_track.now }

@@ -3,8 +3,8 @@
 //! Each part can be paired by itself, since no track has an edge to two of them.
 #![tactic(auto)]
 
+mod grouping;
 mod leasts;
-mod parts;
 mod splitting;
 
 pub use splitting::{Component, components, one_splitting};

@@ -5,8 +5,8 @@ ghost use Rattle.std.specs.List.Sorted.{IsNonDecreasingBy, IsPermutation};
 ghost use Rattle.cluster_split.specs.Components.{AreComponents};
 ghost use Rattle.cluster_split.specs.declared.splitting.Component.{Component};
 
+use crate::grouping::{add_tracks, components_of_plots};
 use crate::leasts::least_plots;
-use crate::parts::{add_tracks, parts_of_plots};
 use std::alloc::Global;
 use trk_base::{NoMemory, Sequence};
 
@@ -34,7 +34,7 @@ pub fn components(
 {
     let by_track = by_track(alloc, edges)?;
     let least = least_plots(alloc, plots, &by_track)?;
-    let (mut parts, places) = parts_of_plots(alloc, &least)?;
+    let (mut parts, places) = components_of_plots(alloc, &least)?;
     add_tracks(&mut parts, &places, &by_track)?;
     Ok(parts)
 }

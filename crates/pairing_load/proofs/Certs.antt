@@ -10,7 +10,7 @@ use Rattle.assignment_dual.specs.Problems.{Problem, IsProblem, row_of, rows_of}
 use Rattle.price_form.specs.declared.certs.Cert.{Cert}
 use Rattle.price_form.specs.Certificates.{IsCert}
 use Rattle.price_form.specs.Files.{IsInRange}
-use Rattle.price_form.specs.Spelling.{cert_octets}
+use Rattle.price_form.specs.Encoding.{cert_octets}
 use Rattle.pairing_load.specs.declared.problems.EdgeCosts.TheVariants.{Random}
 use Rattle.pairing_load.specs.Problems.{full_edge, full_problem}
 use Rattle.pairing_load.specs.Certificates.{IsLoadCert}
@@ -61,5 +61,5 @@ record_made k g c octets lt h named us vs e = record {
   cert = c;
   is = h;
   formed = (cert_formed k g c h named, subst IsProblem (sym h.costs) (full_is Random 3 g (omega arith)), cert_fits k g c lt h us vs);
-  spelled = e;
+  encoded = e;
 }

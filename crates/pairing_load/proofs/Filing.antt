@@ -15,7 +15,7 @@ use Rattle.rand_pcg.specs.Lcg.{Lcg}
 use Rattle.price_form.specs.declared.certs.PriceRecord.{PriceRecord}
 use Rattle.price_form.specs.declared.certs.PriceRecord.TheVariants.{Edition, Cert as Certified}
 use Rattle.price_form.specs.Files.{IsRecord, StandFrom, StandsAt, magic}
-use Rattle.price_form.specs.Spelling.{record_octets}
+use Rattle.price_form.specs.Encoding.{price_record_octets}
 use Rattle.pairing_load.specs.declared.problems.EdgeCosts.TheVariants.{Random}
 use Rattle.pairing_load.specs.Places.{Got, GotFront}
 use Rattle.pairing_load.specs.Problems.{behind, generator_of}
@@ -23,13 +23,13 @@ use Rattle.pairing_load.specs.Certificates.{IsLoadRecord}
 use Rattle.pairing_load.specs.PriceFiles.{FileWritten, FrontWritten, IsLoadFile, RecordMade, generator_at}
 use Rattle.pairing_load.proofs.Drawing.{behind_behind, behind_none}
 
-stand_push : (p : ℕ) (rs : List PriceRecord) (r : PriceRecord) → StandFrom p rs → StandsAt (p + length (flat_map record_octets rs)) r → StandFrom p (rs ++ r ∷ [])
+stand_push : (p : ℕ) (rs : List PriceRecord) (r : PriceRecord) → StandFrom p rs → StandsAt (p + length (flat_map price_record_octets rs)) r → StandFrom p (rs ++ r ∷ [])
 stand_push p [] r h k =
     let e : p + 0 ≡ p = omega arith in
     (subst (λ (q : ℕ). StandsAt q r) e k, tt)
 stand_push p (s ∷ rs) r h k =
-    let e : p + length (record_octets s ++ flat_map record_octets rs) ≡ p + length (record_octets s) + length (flat_map record_octets rs) = omega (arith, length-append (record_octets s) (flat_map record_octets rs)) in
-    (h.0, stand_push (p + length (record_octets s)) rs r h.1 (subst (λ (q : ℕ). StandsAt q r) e k))
+    let e : p + length (price_record_octets s ++ flat_map price_record_octets rs) ≡ p + length (price_record_octets s) + length (flat_map price_record_octets rs) = omega (arith, length-append (price_record_octets s) (flat_map price_record_octets rs)) in
+    (h.0, stand_push (p + length (price_record_octets s)) rs r h.1 (subst (λ (q : ℕ). StandsAt q r) e k))
 
 -- what the file begins with
 abbrev pub head : List ℕ
@@ -40,7 +40,7 @@ pub file_none : (seed : ℕ) → IsLoadFile seed 0 head
 file_none seed = record {
   records = [];
   file = record {
-    spelled = refl;
+    encoded = refl;
     each = All-push IsRecord [] (Edition 1 0) (λ k d lt. absurd (omega (arith, lt))) (omega arith, omega arith);
     places = (tt, tt);
   };
@@ -52,15 +52,15 @@ file_none seed = record {
 pub file_more : (seed n : ℕ) (bytes octets : List ℕ) → IsLoadFile seed n bytes → RecordMade n (generator_at seed n) octets → IsLoadFile seed (n + 1) (bytes ++ octets)
 file_more seed n bytes octets h made =
     let before : List PriceRecord = Edition 1 0 ∷ h.records in
-    let at : ℕ = 4 + length (flat_map record_octets before) in
+    let at : ℕ = 4 + length (flat_map price_record_octets before) in
     let r : PriceRecord = Certified made.cert at in
     let none : PriceRecord = Edition 0 0 in
-    let flat : flat_map record_octets (before ++ r ∷ []) ≡ flat_map record_octets before ++ record_octets r = flat_map-append record_octets before (r ∷ []) ∙ ap (λ (xs : List ℕ). flat_map record_octets before ++ xs) (append-nil (record_octets r)) in
+    let flat : flat_map price_record_octets (before ++ r ∷ []) ≡ flat_map price_record_octets before ++ price_record_octets r = flat_map-append price_record_octets before (r ∷ []) ∙ ap (λ (xs : List ℕ). flat_map price_record_octets before ++ xs) (append-nil (price_record_octets r)) in
     let here : get_or (h.records ++ r ∷ []) n none ≡ r = get_or_push h.records r none n h.count_is in
     record {
       records = h.records ++ r ∷ [];
       file = record {
-        spelled = (λ i. h.file.spelled i ++ made.spelled i) ∙ append_assoc magic (flat_map record_octets before) (record_octets r) ∙ ap (λ (xs : List ℕ). magic ++ xs) (sym flat);
+        encoded = (λ i. h.file.encoded i ++ made.encoded i) ∙ append_assoc magic (flat_map price_record_octets before) (price_record_octets r) ∙ ap (λ (xs : List ℕ). magic ++ xs) (sym flat);
         each = All-push IsRecord before r h.file.each made.formed;
         places = stand_push 4 before r h.file.places refl;
       };

@@ -7,7 +7,7 @@ use Rattle.price_form.specs.declared.certs.Cert.{Cert}
 use Rattle.price_form.specs.declared.certs.PriceRecord.{PriceRecord}
 use Rattle.price_form.specs.declared.certs.PriceRecord.TheVariants.{Edition, Cert as Certified}
 use Rattle.price_form.specs.Files.{ArePrices, IsRecord}
-use Rattle.price_form.specs.Spelling.{cert_octets}
+use Rattle.price_form.specs.Encoding.{cert_octets}
 use Rattle.pairing_load.specs.declared.problems.EdgeCosts.TheVariants.{Random}
 use Rattle.pairing_load.specs.Problems.{behind, generator_of}
 use Rattle.pairing_load.specs.Certificates.{IsLoadCert, IsLoadRecord}
@@ -44,4 +44,4 @@ pub record RecordMade (k : ℕ) (g : Lcg) (octets : List ℕ) : Type 0 where
   pub cert : Cert
   pub is : IsLoadCert k g cert
   pub formed : IsRecord (Certified cert 0)
-  pub spelled : octets ≡ cert_octets cert
+  pub encoded : octets ≡ cert_octets cert

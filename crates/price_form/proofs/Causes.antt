@@ -5,10 +5,10 @@ use Rattle.std.proofs.lemmas.Bool.{cases_lt, cases_eq, eq-eqb, ne_eqb}
 use Rattle.std.proofs.lemmas.List.{drop_at}
 use Rattle.std.proofs.lemmas.List.Prefix.{at_from_reads}
 use Rattle.price_form.specs.Octets.{word_at}
-use Rattle.price_form.specs.Spelling.{record_octets}
+use Rattle.price_form.specs.Encoding.{price_record_octets}
 use Rattle.price_form.specs.Files.{magic, StopsAt}
 use Rattle.price_form.specs.Reading.{NoRecord, cert_end}
-use Rattle.price_form.specs.Fronts.{IsWrong, record_end}
+use Rattle.price_form.specs.Prefixes.{IsWrong, record_end}
 use Rattle.price_form.proofs.Standing.{AreOctets}
 use Rattle.price_form.proofs.Filed.{edition_read}
 use Rattle.price_form.proofs.Decided.{dec_number}
@@ -16,10 +16,10 @@ use Rattle.price_form.proofs.FineNumbers.{ReadsSome, reads_fine}
 
 stops_none : (bytes : List ℕ) (p : ℕ) → StopsAt bytes p → NoRecord bytes p
 stops_none bytes p s r ok h =
-    let before = magic ++ flat_map record_octets s.records in
-    let spelled : bytes ≡ before ++ s.rest = s.spelled ∙ sym (append_assoc magic (flat_map record_octets s.records) s.rest) in
-    let left : drop p bytes ≡ s.rest = ap (drop p) spelled ∙ drop_at before s.rest p (sym s.place) in
-    s.stops.none r (drop (p + length (record_octets r)) bytes) ok (sym left ∙ at_from_reads 0 bytes (record_octets r) p h.inside h.same)
+    let before = magic ++ flat_map price_record_octets s.records in
+    let encoded : bytes ≡ before ++ s.rest = s.encoded ∙ sym (append_assoc magic (flat_map price_record_octets s.records) s.rest) in
+    let left : drop p bytes ≡ s.rest = ap (drop p) encoded ∙ drop_at before s.rest p (sym s.place) in
+    s.stops.none r (drop (p + length (price_record_octets r)) bytes) ok (sym left ∙ at_from_reads 0 bytes (price_record_octets r) p h.inside h.same)
 
 none_stands : (bytes : List ℕ) (p : ℕ) → StopsAt bytes p → ReadsSome bytes p → ⊥
 none_stands bytes p s h = stops_none bytes p s h.found h.reads.formed h.reads.stands

@@ -8,7 +8,7 @@ use Rattle.assignment_dual.specs.Problems.{Edge, IsProblem}
 use Rattle.price_form.specs.declared.certs.Cert.{Cert}
 use Rattle.price_form.specs.Certificates.{IsCert}
 use Rattle.price_form.specs.Octets.{word_octets, price_octets, edge_octets, entry_octets, half_at, word_at, price_number_at, edge_numbers_at, entry_number_at}
-use Rattle.price_form.specs.Spelling.{head_octets, gate_octets, proof_octets, cert_octets}
+use Rattle.price_form.specs.Encoding.{head_octets, gate_octets, proof_octets, cert_octets}
 use Rattle.price_form.specs.Files.{IsInRange}
 use Rattle.price_form.specs.Reading.{Stands, plots_at, tracks_at, edges_at, end_of, cert_end, cert_of, cert_read}
 use Rattle.price_form.proofs.Standing.{AreOctets, stands_both, stands_first, stands_second, stands_head, stands_tail, stands_cons, half_is, word_is, price_is, edge_is, entry_is, half_stands, word_stands, price_stands, edge_stands, entry_stands, flat_length, length-many, many_is, many_stands}

@@ -4,7 +4,7 @@ use Rattle.std.proofs.lemmas.Bool.{cases_lt, cases_eq}
 use Rattle.assignment_dual.specs.Problems.{Edge, EdgeBefore}
 use Rattle.price_form.specs.Octets.{none_number, half_at, short_at, edge_numbers_at}
 use Rattle.price_form.specs.Reading.{plots_at, tracks_at, edges_at}
-use Rattle.price_form.specs.Fronts.{edges_place, pairing_place, IsWrongEdge, HasWrongEdge, IsWrongEntry, HasWrongEntry, HasWrongNumber, no_plots, many_tracks, in_edges, in_pairing}
+use Rattle.price_form.specs.Prefixes.{edges_offset, pairing_offset, IsWrongEdge, HasWrongEdge, IsWrongEntry, HasWrongEntry, HasWrongNumber, no_plots, many_tracks, in_edges, in_pairing}
 use Rattle.price_form.proofs.WrongNumbers.{none_wrong}
 
 -- a fact, or that it doesn't hold
@@ -98,10 +98,10 @@ dec_number xs p =
           elim (dec_both (dec_le (p + 18) (length xs)) (cases_eq (tracks_at xs p) none_number)) [
             | inl h ↦ inl (many_tracks h.0 h.1)
             | inr b ↦
-                elim (dec_edges xs (plots_at xs p) (tracks_at xs p) (edges_at xs p) (edges_place xs p)) [
+                elim (dec_edges xs (plots_at xs p) (tracks_at xs p) (edges_at xs p) (edges_offset xs p)) [
                   | inl h ↦ inl (in_edges h)
                   | inr c ↦
-                      elim (dec_entries xs (plots_at xs p) (tracks_at xs p) (pairing_place xs p)) [
+                      elim (dec_entries xs (plots_at xs p) (tracks_at xs p) (pairing_offset xs p)) [
                         | inl h ↦ inl (in_pairing h)
                         | inr d ↦ inr (none_wrong xs p (λ le e. a (le, e)) (λ le e. b (le, e)) (λ le h. c h) (λ le h. d h))
                       ]

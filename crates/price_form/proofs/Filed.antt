@@ -1,4 +1,4 @@
--- Records, one behind the other.
+-- Records, one after the other.
 use Rattle.std.proofs.Common.{◌≡◌, ℕ, ◌+◌, ◌-◌, ◌*◌, ◌<◌, ◌≤◌, ◌^◌, List, [], ◌∷◌, ◌++◌, length, get_or, take, drop, arith, refl, sym, ◌∙◌, ap, subst, inl, inr, length-append, append_assoc, append-nil}
 use Rattle.std.specs.Int.{w64, cast_signed}
 use Rattle.std.specs.Prelude.{FitsSigned}
@@ -14,7 +14,7 @@ use Rattle.price_form.specs.declared.certs.PriceRecord.{PriceRecord}
 use Rattle.price_form.specs.declared.certs.PriceRecord.TheVariants.{Edition, Cert as Certified}
 use Rattle.price_form.specs.Certificates.{IsCert}
 use Rattle.price_form.specs.Octets.{word_octets, word_at, half_at, price_number_at, many_at}
-use Rattle.price_form.specs.Spelling.{record_octets, cert_octets}
+use Rattle.price_form.specs.Encoding.{price_record_octets, cert_octets}
 use Rattle.price_form.specs.Files.{IsInRange, IsRecord, StandsAt, StandFrom, ArePrices, StopsAt, magic}
 use Rattle.price_form.specs.Reading.{Stands, NoRecord, ReadsRecord, ReadsNone, cert_read, cert_end}
 use Rattle.price_form.proofs.Standing.{AreOctets, stands_head, stands_both, stands_cons, word_stands}
@@ -26,21 +26,21 @@ stands_from_drop bytes at piece rest le e = record {
   same = λ k lt. sym (get_or-drop at bytes k 0) ∙ ap (λ xs. get_or xs k 0) e ∙ get_or_append_left piece rest 0 k lt;
 }
 
-pub record_some : (r : PriceRecord) → 0 < length (record_octets r)
+pub record_some : (r : PriceRecord) → 0 < length (price_record_octets r)
 unfolding cert_octets
 record_some (Edition number cut) = omega arith
 record_some (Certified c at) = omega arith
 
 -- where no record stands, the octets stop being a price file
-pub stops_here : (bytes : List ℕ) (at : ℕ) (records : List PriceRecord) → at < length bytes → take at bytes ≡ magic ++ flat_map record_octets records → All IsRecord records → NoRecord bytes at → StopsAt bytes at
+pub stops_here : (bytes : List ℕ) (at : ℕ) (records : List PriceRecord) → at < length bytes → take at bytes ≡ magic ++ flat_map price_record_octets records → All IsRecord records → NoRecord bytes at → StopsAt bytes at
 stops_here bytes at records lt e each none = record {
   records = records;
   rest = drop at bytes;
-  spelled = sym (take-append-drop at bytes) ∙ ap (λ xs. xs ++ drop at bytes) e ∙ append_assoc magic (flat_map record_octets records) (drop at bytes);
+  encoded = sym (take-append-drop at bytes) ∙ ap (λ xs. xs ++ drop at bytes) e ∙ append_assoc magic (flat_map price_record_octets records) (drop at bytes);
   each = each;
   stops = record {
     some_left = omega (arith, lt, length-drop at bytes);
-    none = λ r rest ok f. none r ok (stands_from_drop bytes at (record_octets r) rest (omega (arith, lt)) f);
+    none = λ r rest ok f. none r ok (stands_from_drop bytes at (price_record_octets r) rest (omega (arith, lt)) f);
   };
   place = sym (length-take-le at bytes (omega (arith, lt))) ∙ ap length e;
 }
@@ -60,34 +60,34 @@ take_stands bytes at piece h =
           get_or-take (at + length piece) bytes k 0 (omega (arith, lt, long')) ∙ ap (λ j. get_or bytes j 0) (sym back) ∙ h.same i in' ∙ sym (get_or-append-add (take at bytes) piece i 0) ∙ ap (λ j. get_or (take at bytes ++ piece) j 0) back'
     ])
 
-stand_push : (p : ℕ) (rs : List PriceRecord) (r : PriceRecord) → StandFrom p rs → StandsAt (p + length (flat_map record_octets rs)) r → StandFrom p (rs ++ r ∷ [])
+stand_push : (p : ℕ) (rs : List PriceRecord) (r : PriceRecord) → StandFrom p rs → StandsAt (p + length (flat_map price_record_octets rs)) r → StandFrom p (rs ++ r ∷ [])
 stand_push p [] r h k = let e : p + 0 ≡ p = omega arith in (subst (λ q. StandsAt q r) e k, tt)
 stand_push p (s ∷ rs) r h k =
-    let e : p + length (record_octets s ++ flat_map record_octets rs) ≡ p + length (record_octets s) + length (flat_map record_octets rs) = omega (arith, length-append (record_octets s) (flat_map record_octets rs)) in
-    (h.0, stand_push (p + length (record_octets s)) rs r h.1 (subst (λ q. StandsAt q r) e k))
+    let e : p + length (price_record_octets s ++ flat_map price_record_octets rs) ≡ p + length (price_record_octets s) + length (flat_map price_record_octets rs) = omega (arith, length-append (price_record_octets s) (flat_map price_record_octets rs)) in
+    (h.0, stand_push (p + length (price_record_octets s)) rs r h.1 (subst (λ q. StandsAt q r) e k))
 
 -- what is known after one more record
 pub record More (bytes : List ℕ) (at end : ℕ) (records : List PriceRecord) : Type 0 where
   pub inside : end ≤ length bytes
   pub on : at < end
-  pub spelled : take end bytes ≡ magic ++ flat_map record_octets records
+  pub encoded : take end bytes ≡ magic ++ flat_map price_record_octets records
   pub each : All IsRecord records
   pub places : StandFrom 4 records
 
-pub one_record : (bytes : List ℕ) (at end : ℕ) (records : List PriceRecord) (r : PriceRecord) → at ≤ length bytes → take at bytes ≡ magic ++ flat_map record_octets records → All IsRecord records → StandFrom 4 records → ReadsRecord bytes at r end → More bytes at end (records ++ r ∷ [])
+pub one_record : (bytes : List ℕ) (at end : ℕ) (records : List PriceRecord) (r : PriceRecord) → at ≤ length bytes → take at bytes ≡ magic ++ flat_map price_record_octets records → All IsRecord records → StandFrom 4 records → ReadsRecord bytes at r end → More bytes at end (records ++ r ∷ [])
 one_record bytes at end records r le e each places h =
-    let flat : flat_map record_octets (records ++ r ∷ []) ≡ flat_map record_octets records ++ record_octets r = flat_map-append record_octets records (r ∷ []) ∙ ap (λ xs. flat_map record_octets records ++ xs) (append-nil (record_octets r)) in
-    let long : at ≡ 4 + length (flat_map record_octets records) = sym (length-take-le at bytes le) ∙ ap length e ∙ length-append magic (flat_map record_octets records) in
+    let flat : flat_map price_record_octets (records ++ r ∷ []) ≡ flat_map price_record_octets records ++ price_record_octets r = flat_map-append price_record_octets records (r ∷ []) ∙ ap (λ xs. flat_map price_record_octets records ++ xs) (append-nil (price_record_octets r)) in
+    let long : at ≡ 4 + length (flat_map price_record_octets records) = sym (length-take-le at bytes le) ∙ ap length e ∙ length-append magic (flat_map price_record_octets records) in
     record {
       inside = omega (arith, h.ends, h.stands.inside);
       on = omega (arith, h.ends, record_some r);
-      spelled = ap (λ n. take n bytes) h.ends ∙ take_stands bytes at (record_octets r) h.stands ∙ ap (λ xs. xs ++ record_octets r) e ∙ append_assoc magic (flat_map record_octets records) (record_octets r) ∙ ap (λ xs. magic ++ xs) (sym flat);
+      encoded = ap (λ n. take n bytes) h.ends ∙ take_stands bytes at (price_record_octets r) h.stands ∙ ap (λ xs. xs ++ price_record_octets r) e ∙ append_assoc magic (flat_map price_record_octets records) (price_record_octets r) ∙ ap (λ xs. magic ++ xs) (sym flat);
       each = All-push IsRecord records r each h.formed;
       places = stand_push 4 records r places (subst (λ q. StandsAt q r) long h.at);
     }
 
-pub whole_file : (bytes : List ℕ) (at : ℕ) (records : List PriceRecord) → length bytes ≤ at → take at bytes ≡ magic ++ flat_map record_octets records → All IsRecord records → StandFrom 4 records → ArePrices bytes records
-whole_file bytes at records le e each places = record { spelled = sym (take_all at bytes le) ∙ e; each = each; places = places }
+pub whole_file : (bytes : List ℕ) (at : ℕ) (records : List PriceRecord) → length bytes ≤ at → take at bytes ≡ magic ++ flat_map price_record_octets records → All IsRecord records → StandFrom 4 records → ArePrices bytes records
+whole_file bytes at records le e each places = record { encoded = sym (take_all at bytes le) ∙ e; each = each; places = places }
 
 -- Records that can't stand there
 

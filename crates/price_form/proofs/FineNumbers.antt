@@ -9,7 +9,7 @@ use Rattle.price_form.specs.declared.certs.PriceRecord.{PriceRecord}
 use Rattle.price_form.specs.Certificates.{IsCert}
 use Rattle.price_form.specs.Octets.{none_number, half_at, short_at, edge_numbers_at, entry_of, entry_number_at}
 use Rattle.price_form.specs.Reading.{plots_at, tracks_at, edges_at, cert_end, cert_read, HasCounts, ReadsRecord}
-use Rattle.price_form.specs.Fronts.{edges_place, pairing_place, IsOutOfRange, IsOutOfOrder, IsWrongEdge, HasWrongEdge, IsWrongEntry, HasWrongEntry, HasWrongNumber, no_plots, many_tracks, in_edges, in_pairing}
+use Rattle.price_form.specs.Prefixes.{edges_offset, pairing_offset, IsOutOfRange, IsOutOfOrder, IsWrongEdge, HasWrongEdge, IsWrongEntry, HasWrongEntry, HasWrongNumber, no_plots, many_tracks, in_edges, in_pairing}
 use Rattle.price_form.proofs.Standing.{AreOctets, get-many, length-many}
 use Rattle.price_form.proofs.Filed.{small_half, cert_reads}
 use Rattle.price_form.proofs.ReadSteps.{read_edges, read_entries, rises_more}
@@ -18,11 +18,11 @@ use Rattle.price_form.proofs.Decided.{dec_before}
 
 -- ---- the numbers of a record
 
-edge_of : (xs : List ℕ) (p i : ℕ) → i < edges_at xs p → edge_at (read_edges xs p) i ≡ edge_numbers_at xs (edges_place xs p + i * 10)
-edge_of xs p i lt = get-many edge_numbers_at 10 xs (edges_place xs p) (edges_at xs p) i (0, 0, 0) lt
+edge_of : (xs : List ℕ) (p i : ℕ) → i < edges_at xs p → edge_at (read_edges xs p) i ≡ edge_numbers_at xs (edges_offset xs p + i * 10)
+edge_of xs p i lt = get-many edge_numbers_at 10 xs (edges_offset xs p) (edges_at xs p) i (0, 0, 0) lt
 
-entry_of_place : (xs : List ℕ) (p i : ℕ) → i < plots_at xs p → get_or (read_entries xs p) i None ≡ entry_number_at xs (pairing_place xs p + i * 4)
-entry_of_place xs p i lt = get-many entry_number_at 4 xs (pairing_place xs p) (plots_at xs p) i None lt
+entry_of_place : (xs : List ℕ) (p i : ℕ) → i < plots_at xs p → get_or (read_entries xs p) i None ≡ entry_number_at xs (pairing_offset xs p + i * 4)
+entry_of_place xs p i lt = get-many entry_number_at 4 xs (pairing_offset xs p) (plots_at xs p) i None lt
 
 entry_none : (n : ℕ) → n ≡ none_number → entry_of n ≡ None
 entry_none n e = ap (λ b. cond b None (Some n)) (eq-eqb n none_number e)
@@ -34,30 +34,30 @@ entry_some n ne = ap (λ b. cond b None (Some n)) (ne_eqb n none_number ne)
 abbrev pub read_problem : List ℕ → ℕ → Problem
 read_problem xs p = record { plots = plots_at xs p; tracks = tracks_at xs p; edges = read_edges xs p }
 
-edge_fails : (xs : List ℕ) (p i : ℕ) → IsProblem (read_problem xs p) → i < edges_at xs p → IsWrongEdge xs (plots_at xs p) (tracks_at xs p) (edges_place xs p) i → ⊥
+edge_fails : (xs : List ℕ) (p i : ℕ) → IsProblem (read_problem xs p) → i < edges_at xs p → IsWrongEdge xs (plots_at xs p) (tracks_at xs p) (edges_offset xs p) i → ⊥
 edge_fails xs p i q lt (inl (inl w)) =
-    let long = length-many edge_numbers_at 10 xs (edges_place xs p) (edges_at xs p) in
-    let h : half_at xs (edges_place xs p + i * 10) < plots_at xs p = subst (λ (e : Edge). e.0 < plots_at xs p) (edge_of xs p i lt) (q.plots i (0, 0, 0) (omega (arith, lt, long))) in
+    let long = length-many edge_numbers_at 10 xs (edges_offset xs p) (edges_at xs p) in
+    let h : half_at xs (edges_offset xs p + i * 10) < plots_at xs p = subst (λ (e : Edge). e.0 < plots_at xs p) (edge_of xs p i lt) (q.plots i (0, 0, 0) (omega (arith, lt, long))) in
     omega (arith, h, w.1)
 edge_fails xs p i q lt (inl (inr (inl w))) =
-    let long = length-many edge_numbers_at 10 xs (edges_place xs p) (edges_at xs p) in
-    let h : half_at xs (edges_place xs p + i * 10 + 4) < tracks_at xs p = subst (λ (e : Edge). e.1 < tracks_at xs p) (edge_of xs p i lt) (q.tracks i (0, 0, 0) (omega (arith, lt, long))) in
+    let long = length-many edge_numbers_at 10 xs (edges_offset xs p) (edges_at xs p) in
+    let h : half_at xs (edges_offset xs p + i * 10 + 4) < tracks_at xs p = subst (λ (e : Edge). e.1 < tracks_at xs p) (edge_of xs p i lt) (q.tracks i (0, 0, 0) (omega (arith, lt, long))) in
     omega (arith, h, w.1)
 edge_fails xs p i q lt (inl (inr (inr w))) =
-    let long = length-many edge_numbers_at 10 xs (edges_place xs p) (edges_at xs p) in
-    let h : short_at xs (edges_place xs p + i * 10 + 8) ≤ 4096 = subst (λ (e : Edge). e.2 ≤ 4096) (edge_of xs p i lt) (q.costs i (0, 0, 0) (omega (arith, lt, long))) in
+    let long = length-many edge_numbers_at 10 xs (edges_offset xs p) (edges_at xs p) in
+    let h : short_at xs (edges_offset xs p + i * 10 + 8) ≤ 4096 = subst (λ (e : Edge). e.2 ≤ 4096) (edge_of xs p i lt) (q.costs i (0, 0, 0) (omega (arith, lt, long))) in
     omega (arith, h, w.1)
 edge_fails xs p i q lt (inr w) =
-    let long = length-many edge_numbers_at 10 xs (edges_place xs p) (edges_at xs p) in
-    let back : edges_place xs p + (i - 1) * 10 ≡ edges_place xs p + i * 10 - 10 = omega (arith, w.0) in
+    let long = length-many edge_numbers_at 10 xs (edges_offset xs p) (edges_at xs p) in
+    let back : edges_offset xs p + (i - 1) * 10 ≡ edges_offset xs p + i * 10 - 10 = omega (arith, w.0) in
     let first = edge_of xs p (i - 1) (omega (arith, lt)) ∙ ap (edge_numbers_at xs) back in
     w.1.1 (subst (λ (e : Edge × Edge). EdgeBefore e.0 e.1) (λ j. (first j, edge_of xs p i lt j)) (q.rising (i - 1) i (omega (arith, w.0)) (omega (arith, lt, long))))
 
-entry_fails : (xs : List ℕ) (p i : ℕ) → All (λ x. IfSome x (λ t. t < tracks_at xs p)) (read_entries xs p) → i < plots_at xs p → IsWrongEntry xs (tracks_at xs p) (pairing_place xs p + i * 4) → ⊥
+entry_fails : (xs : List ℕ) (p i : ℕ) → All (λ x. IfSome x (λ t. t < tracks_at xs p)) (read_entries xs p) → i < plots_at xs p → IsWrongEntry xs (tracks_at xs p) (pairing_offset xs p + i * 4) → ⊥
 entry_fails xs p i named lt w =
-    let long = length-many entry_number_at 4 xs (pairing_place xs p) (plots_at xs p) in
+    let long = length-many entry_number_at 4 xs (pairing_offset xs p) (plots_at xs p) in
     let P : Option ℕ → Type 0 = λ x. IfSome x (λ t. t < tracks_at xs p) in
-    let h : half_at xs (pairing_place xs p + i * 4) < tracks_at xs p = subst P (entry_of_place xs p i lt ∙ entry_some (half_at xs (pairing_place xs p + i * 4)) w.1) (named i None (omega (arith, lt, long))) in
+    let h : half_at xs (pairing_offset xs p + i * 4) < tracks_at xs p = subst P (entry_of_place xs p i lt ∙ entry_some (half_at xs (pairing_offset xs p + i * 4)) w.1) (named i None (omega (arith, lt, long))) in
     omega (arith, h, w.2)
 
 -- a certificate of a file has no wrong number
@@ -97,17 +97,17 @@ rising_from : (edges : List Edge) (m : ℕ) → ((i : ℕ) → 0 < i → i < m �
 rising_from edges zero h a b lt in' = absurd (omega (arith, in'))
 rising_from edges (suc m) h a b lt in' = rises_more edges m (rising_from edges m (λ i p q. h i p (omega (arith, q)))) (λ p. h m p (omega arith)) a b lt (omega (arith, in'))
 
-fine_problem : (xs : List ℕ) (p : ℕ) → edges_place xs p + edges_at xs p * 10 ≤ length xs → (HasWrongEdge xs (plots_at xs p) (tracks_at xs p) (edges_at xs p) (edges_place xs p) → ⊥) → IsProblem (read_problem xs p)
+fine_problem : (xs : List ℕ) (p : ℕ) → edges_offset xs p + edges_at xs p * 10 ≤ length xs → (HasWrongEdge xs (plots_at xs p) (tracks_at xs p) (edges_at xs p) (edges_offset xs p) → ⊥) → IsProblem (read_problem xs p)
 fine_problem xs p le no' =
     let m = edges_at xs p in
-    let long = length-many edge_numbers_at 10 xs (edges_place xs p) m in
-    let range = λ (i : ℕ) (lt : i < m). in_range xs (plots_at xs p) (tracks_at xs p) (edges_place xs p + i * 10) (omega (arith, lt, le)) (λ w. no' (record { i = i; counted = lt; wrong = inl w })) in
+    let long = length-many edge_numbers_at 10 xs (edges_offset xs p) m in
+    let range = λ (i : ℕ) (lt : i < m). in_range xs (plots_at xs p) (tracks_at xs p) (edges_offset xs p + i * 10) (omega (arith, lt, le)) (λ w. no' (record { i = i; counted = lt; wrong = inl w })) in
     record {
       rising = λ a b lt in'. rising_from (read_edges xs p) m (λ i zero_lt i_lt.
-          let back : edges_place xs p + (i - 1) * 10 ≡ edges_place xs p + i * 10 - 10 = omega (arith, zero_lt) in
+          let back : edges_offset xs p + (i - 1) * 10 ≡ edges_offset xs p + i * 10 - 10 = omega (arith, zero_lt) in
           let first = edge_of xs p (i - 1) (omega (arith, i_lt)) ∙ ap (edge_numbers_at xs) back in
           let second = edge_of xs p i i_lt in
-          subst (λ (e : Edge × Edge). EdgeBefore e.0 e.1) (λ j. (sym first j, sym second j)) (in_order xs (edges_place xs p + i * 10) (omega (arith, i_lt, le)) (λ w. no' (record { i = i; counted = i_lt; wrong = inr (zero_lt, w) })))) a b lt (omega (arith, in', long));
+          subst (λ (e : Edge × Edge). EdgeBefore e.0 e.1) (λ j. (sym first j, sym second j)) (in_order xs (edges_offset xs p + i * 10) (omega (arith, i_lt, le)) (λ w. no' (record { i = i; counted = i_lt; wrong = inr (zero_lt, w) })))) a b lt (omega (arith, in', long));
       plots = All-from_get_or (λ (e : Edge). e.0 < plots_at xs p) (read_edges xs p) (0, 0, 0) (λ i lt. let i_lt : i < m = omega (arith, lt, long) in subst (λ (e : Edge). e.0 < plots_at xs p) (sym (edge_of xs p i i_lt)) (range i i_lt).0);
       tracks = All-from_get_or (λ (e : Edge). e.1 < tracks_at xs p) (read_edges xs p) (0, 0, 0) (λ i lt. let i_lt : i < m = omega (arith, lt, long) in subst (λ (e : Edge). e.1 < tracks_at xs p) (sym (edge_of xs p i i_lt)) (range i i_lt).1);
       costs = All-from_get_or (λ (e : Edge). e.2 ≤ 4096) (read_edges xs p) (0, 0, 0) (λ i lt. let i_lt : i < m = omega (arith, lt, long) in subst (λ (e : Edge). e.2 ≤ 4096) (sym (edge_of xs p i i_lt)) (range i i_lt).2);
@@ -125,13 +125,13 @@ fine_entry xs k q le no' =
           ]
     ]
 
-fine_names : (xs : List ℕ) (p : ℕ) → pairing_place xs p + plots_at xs p * 4 ≤ length xs → (HasWrongEntry xs (plots_at xs p) (tracks_at xs p) (pairing_place xs p) → ⊥) → All (λ x. IfSome x (λ t. t < tracks_at xs p)) (read_entries xs p)
+fine_names : (xs : List ℕ) (p : ℕ) → pairing_offset xs p + plots_at xs p * 4 ≤ length xs → (HasWrongEntry xs (plots_at xs p) (tracks_at xs p) (pairing_offset xs p) → ⊥) → All (λ x. IfSome x (λ t. t < tracks_at xs p)) (read_entries xs p)
 fine_names xs p le no' =
     let P : Option ℕ → Type 0 = λ x. IfSome x (λ t. t < tracks_at xs p) in
-    let long = length-many entry_number_at 4 xs (pairing_place xs p) (plots_at xs p) in
+    let long = length-many entry_number_at 4 xs (pairing_offset xs p) (plots_at xs p) in
     All-from_get_or P (read_entries xs p) None (λ i lt.
     let i_lt : i < plots_at xs p = omega (arith, lt, long) in
-    subst P (sym (entry_of_place xs p i i_lt)) (fine_entry xs (tracks_at xs p) (pairing_place xs p + i * 4) (omega (arith, i_lt, le)) (λ w. no' (record { i = i; counted = i_lt; wrong = w }))))
+    subst P (sym (entry_of_place xs p i i_lt)) (fine_entry xs (tracks_at xs p) (pairing_offset xs p + i * 4) (omega (arith, i_lt, le)) (λ w. no' (record { i = i; counted = i_lt; wrong = w }))))
 
 counts_read : (xs : List ℕ) (p : ℕ) → AreOctets xs → cert_end xs p ≤ length xs → (HasWrongNumber xs p → ⊥) → HasCounts xs p (record { plots = plots_at xs p; tracks = tracks_at xs p; edges = edges_at xs p })
 counts_read xs p o le no' = record {

@@ -4,7 +4,7 @@ use Rattle.std.specs.Int.{w16, w32, from_be_bytes}
 use Rattle.std.proofs.lemmas.List.{get_or_append_left}
 use Rattle.price_form.specs.Octets.{half_at, short_at}
 use Rattle.price_form.specs.Reading.{plots_at, tracks_at, edges_at}
-use Rattle.price_form.specs.Fronts.{edges_place, pairing_place, IsOutOfRange, IsWrongEdge, HasWrongEdge, HasWrongEntry, HasWrongNumber, no_plots, many_tracks, in_edges, in_pairing, IsWrong}
+use Rattle.price_form.specs.Prefixes.{edges_offset, pairing_offset, IsOutOfRange, IsWrongEdge, HasWrongEdge, HasWrongEntry, HasWrongNumber, no_plots, many_tracks, in_edges, in_pairing, IsWrong}
 use Rattle.price_form.proofs.WrongNumbers.{edge_begun}
 
 half_on : (xs more : List ℕ) (q : ℕ) → q + 4 ≤ length xs → half_at (xs ++ more) q ≡ half_at xs q
@@ -50,7 +50,7 @@ entries_on xs more n k from h =
     record { i = h.i; counted = h.counted; wrong = (longer xs more (q + 4) h.wrong.0, (λ f. h.wrong.1 (sym e ∙ f)), omega (arith, h.wrong.2, e)) }
 
 -- the counts stay
-count_on : (xs more : List ℕ) (p : ℕ) → edges_place xs p ≤ length xs → edges_at (xs ++ more) p ≡ edges_at xs p
+count_on : (xs more : List ℕ) (p : ℕ) → edges_offset xs p ≤ length xs → edges_at (xs ++ more) p ≡ edges_at xs p
 count_on xs more p le =
     let a = half_on xs more (p + 10) (omega (arith, le)) in
     let b = half_on xs more (p + 14) (omega (arith, le)) in
@@ -60,17 +60,17 @@ number_on : (xs more : List ℕ) (p : ℕ) → HasWrongNumber xs p → HasWrongN
 number_on xs more p (no_plots le e) = no_plots (longer xs more (p + 14) le) (half_on xs more (p + 10) (omega (arith, le)) ∙ e)
 number_on xs more p (many_tracks le e) = many_tracks (longer xs more (p + 18) le) (half_on xs more (p + 14) (omega (arith, le)) ∙ e)
 number_on xs more p (in_edges h) =
-    let le : edges_place xs p ≤ length xs = omega (arith, edge_begun xs (plots_at xs p) (tracks_at xs p) (edges_place xs p) h.i h.wrong) in
+    let le : edges_offset xs p ≤ length xs = omega (arith, edge_begun xs (plots_at xs p) (tracks_at xs p) (edges_offset xs p) h.i h.wrong) in
     let a = sym (half_on xs more (p + 10) (omega (arith, le))) in
     let b = sym (half_on xs more (p + 14) (omega (arith, le))) in
     let c = sym (count_on xs more p le) in
-    in_edges (subst (λ (t : ℕ × ℕ × ℕ × ℕ). HasWrongEdge (xs ++ more) t.0 t.1 t.2 t.3) (λ j. (a j, b j, c j, p + 22 + a j * 8 + b j * 8)) (edges_on xs more (plots_at xs p) (tracks_at xs p) (edges_at xs p) (edges_place xs p) h))
+    in_edges (subst (λ (t : ℕ × ℕ × ℕ × ℕ). HasWrongEdge (xs ++ more) t.0 t.1 t.2 t.3) (λ j. (a j, b j, c j, p + 22 + a j * 8 + b j * 8)) (edges_on xs more (plots_at xs p) (tracks_at xs p) (edges_at xs p) (edges_offset xs p) h))
 number_on xs more p (in_pairing h) =
-    let le : edges_place xs p ≤ length xs = omega (arith, h.wrong.0) in
+    let le : edges_offset xs p ≤ length xs = omega (arith, h.wrong.0) in
     let a = sym (half_on xs more (p + 10) (omega (arith, le))) in
     let b = sym (half_on xs more (p + 14) (omega (arith, le))) in
     let c = sym (count_on xs more p le) in
-    in_pairing (subst (λ (t : ℕ × ℕ × ℕ). HasWrongEntry (xs ++ more) t.0 t.1 t.2) (λ j. (a j, b j, p + 22 + a j * 8 + b j * 8 + c j * 10)) (entries_on xs more (plots_at xs p) (tracks_at xs p) (pairing_place xs p) h))
+    in_pairing (subst (λ (t : ℕ × ℕ × ℕ). HasWrongEntry (xs ++ more) t.0 t.1 t.2) (λ j. (a j, b j, p + 22 + a j * 8 + b j * 8 + c j * 10)) (entries_on xs more (plots_at xs p) (tracks_at xs p) (pairing_offset xs p) h))
 
 pub wrong_on : (xs more : List ℕ) (p : ℕ) → p < length xs → IsWrong xs p → IsWrong (xs ++ more) p
 wrong_on xs more p lt (inl w) = let e = get_or_append_left xs more 0 p lt in inl ((λ f. w.0 (sym e ∙ f)), (λ f. w.1 (sym e ∙ f)))

@@ -30,7 +30,7 @@ pub record Offsets (p : ℕ) (cs : Counts) (edges pairing u v : ℕ) : Type 0 wh
 -- what is read by the counts is the certificate's
 read_by : (xs : List ℕ) (p : ℕ) (cs : Counts) → HasCounts xs p cs
     → AreColumns (cert_read xs p) cs.tracks (many_at edge_numbers_at 10 xs (p + 22 + cs.plots * 8 + cs.tracks * 8) cs.edges) (many_at entry_number_at 4 xs (p + 22 + cs.plots * 8 + cs.tracks * 8 + cs.edges * 10) cs.plots)
-      (many_at price_number_at 8 xs (p + 22 + cs.plots * 8 + cs.tracks * 8 + cs.edges * 10 + cs.plots * 4) cs.plots) (many_at price_number_at 8 xs (p + 22 + cs.plots * 8 + cs.tracks * 8 + cs.edges * 10 + cs.plots * 4 + cs.plots * 8) cs.tracks)
+    (many_at price_number_at 8 xs (p + 22 + cs.plots * 8 + cs.tracks * 8 + cs.edges * 10 + cs.plots * 4) cs.plots) (many_at price_number_at 8 xs (p + 22 + cs.plots * 8 + cs.tracks * 8 + cs.edges * 10 + cs.plots * 4 + cs.plots * 8) cs.tracks)
 unfolding cert_read
 read_by xs p cs h = record {
   edges_are = λ t. many_at edge_numbers_at 10 xs (p + 22 + h.plots t * 8 + h.tracks t * 8) (h.edges t);

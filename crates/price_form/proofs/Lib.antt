@@ -1,7 +1,7 @@
 pub mod Rows
 pub mod Names
 pub mod Sums
-pub mod Spelled
+pub mod Encoded
 pub mod Standing
 pub mod Certified
 pub mod ReadSteps
@@ -12,8 +12,8 @@ pub mod WrongNumbers
 pub mod Decided
 pub mod FineNumbers
 pub mod GoesOn
-pub mod FrontFaults
-pub mod OneFront
+pub mod PrefixFaults
+pub mod OnePrefix
 pub mod Causes
 pub mod InPlace
 pub mod Taking

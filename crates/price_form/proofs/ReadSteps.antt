@@ -43,7 +43,7 @@ pub bad_names : (xs : List ℕ) (p : ℕ) → (All (λ x. IfSome x (λ t. t < tr
 unfolding cert_read
 bad_names xs p h le f q = h f.named
 
--- the edge at n behind those before it
+-- the edge at n after those before it
 pub rises_more : (edges : List Edge) (n : ℕ) → ((a b : ℕ) → a < b → b < n → EdgeBefore (edge_at edges a) (edge_at edges b)) → (0 < n → EdgeBefore (edge_at edges (n - 1)) (edge_at edges n))
     → (a b : ℕ) → a < b → b < n + 1 → EdgeBefore (edge_at edges a) (edge_at edges b)
 rises_more edges n h k a b lt in' =

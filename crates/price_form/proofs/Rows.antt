@@ -88,9 +88,9 @@ pub more_gates : (edges : List Edge) (xs : List (Option ℕ)) (n : ℕ) → n < 
     → (AllGate (first_rows edges (n + 1)) (take (n + 1) xs)) × (cost (first_rows edges (n + 1)) (take (n + 1) xs) ≡ cost (first_rows edges n) (take n xs) + entry_cost (row_of edges n) (entry_at xs n))
 more_gates edges xs n lt h g =
     let rows = rows_more edges n in
-    let front = take_more xs n None lt in (
-      subst (λ ys. AllGate (first_rows edges (n + 1)) ys) (sym front) (subst (λ rs. AllGate rs (take n xs ++ entry_at xs n ∷ [])) (sym rows) (gates_push (first_rows edges n) (take n xs) (row_of edges n) (entry_at xs n) h g)),
-      (λ j. cost (rows j) (front j)) ∙ cost_push (first_rows edges n) (take n xs) (row_of edges n) (entry_at xs n) h,
+    let prefix = take_more xs n None lt in (
+      subst (λ ys. AllGate (first_rows edges (n + 1)) ys) (sym prefix) (subst (λ rs. AllGate rs (take n xs ++ entry_at xs n ∷ [])) (sym rows) (gates_push (first_rows edges n) (take n xs) (row_of edges n) (entry_at xs n) h g)),
+      (λ j. cost (rows j) (prefix j)) ∙ cost_push (first_rows edges n) (take n xs) (row_of edges n) (entry_at xs n) h,
     )
 
 gates_at : (rows : List Row) (xs : List (Option ℕ)) (i : ℕ) (row : Row) → AllGate rows xs → i < length xs → Gates (get_or rows i row) (get_or xs i None)

@@ -1,4 +1,4 @@
--- Pieces that stand in octets, one behind the other; the numbers that stand there, and those that are written there.
+-- Pieces that stand in octets, one after the other; the numbers that stand there, and those that are written there.
 use Rattle.std.proofs.Common.{◌≡◌, ℕ, ℤ, suc, zero, pos, negsuc, ◌+◌, ◌-◌, ◌*◌, ◌<◌, ◌≤◌, ◌^◌, List, [], ◌∷◌, ◌++◌, Option, Some, None, length, get_or, map, arith, refl, sym, ◌∙◌, ap, subst, inl, inr, length-append, cond, lit<}
 use Rattle.std.specs.Int.{w16, w32, w64, to_be_bytes, from_be_bytes, cast_unsigned, cast_signed}
 use Rattle.std.specs.Prelude.{FitsSigned}

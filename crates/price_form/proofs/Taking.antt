@@ -8,7 +8,7 @@ use Rattle.price_form.specs.Certificates.{IsCert}
 use Rattle.price_form.specs.declared.certs.PriceRecord.{PriceRecord}
 use Rattle.price_form.specs.declared.certs.PriceRecord.TheVariants.{Edition, Cert as Certified}
 use Rattle.price_form.specs.declared.reading.Counts.{Counts}
-use Rattle.price_form.specs.Spelling.{cert_octets, record_octets}
+use Rattle.price_form.specs.Encoding.{cert_octets, price_record_octets}
 use Rattle.price_form.specs.Files.{magic, IsRecord, StandFrom, ArePrices, StopsAt}
 use Rattle.price_form.specs.Reading.{NoRecord, ReadsRecord, EndsRecord, HasCert, IsThere, offsets_of, AreOffsets, HasCounts, ReadsCert, cert_read, cert_end, end_of}
 use Rattle.price_form.proofs.Standing.{AreOctets, stands_head}
@@ -18,7 +18,7 @@ use Rattle.price_form.proofs.Filed.{one_record, stops_here, whole_file, cert_rea
 pub record Taken (bytes : List ℕ) (at : ℕ) (offsets : List ℕ) : Type 0 where
   pub records : List PriceRecord
   pub inside : at ≤ length bytes
-  pub spelled : take at bytes ≡ magic ++ flat_map record_octets records
+  pub encoded : take at bytes ≡ magic ++ flat_map price_record_octets records
   pub each : All IsRecord records
   pub places : StandFrom 4 records
   pub there : All (IsThere bytes) records
@@ -40,12 +40,12 @@ is_there bytes p end (Certified c at) h =
 
 taken_on : (bytes : List ℕ) (at end : ℕ) (offsets new : List ℕ) (r : PriceRecord) → Taken bytes at offsets → ReadsRecord bytes at r end → new ≡ offsets ++ offsets_of (r ∷ []) → TakenOn bytes at end new
 taken_on bytes at end offsets new r t h e =
-    let more = one_record bytes at end t.records r t.inside t.spelled t.each t.places h in
+    let more = one_record bytes at end t.records r t.inside t.encoded t.each t.places h in
     record {
       taken = record {
         records = t.records ++ r ∷ [];
         inside = more.inside;
-        spelled = more.spelled;
+        encoded = more.encoded;
         each = more.each;
         places = more.places;
         there = All-push (IsThere bytes) t.records r t.there (is_there bytes at end r h);
@@ -75,12 +75,12 @@ taken_other bytes at end offsets t h other = by h.stands_there h.reads where
   by (Certified c q) k = absurd (other (head_two bytes at end q c k))
 
 pub taken_stops : (bytes : List ℕ) (at : ℕ) (offsets : List ℕ) → Taken bytes at offsets → at < length bytes → NoRecord bytes at → StopsAt bytes at
-taken_stops bytes at offsets t lt none = stops_here bytes at t.records lt t.spelled t.each none
+taken_stops bytes at offsets t lt none = stops_here bytes at t.records lt t.encoded t.each none
 
 pub taken_whole : (bytes : List ℕ) (at : ℕ) (offsets : List ℕ) → Taken bytes at offsets → length bytes ≤ at → AreOffsets bytes offsets
 taken_whole bytes at offsets t le = record {
   records = t.records;
-  file = whole_file bytes at t.records le t.spelled t.each t.places;
+  file = whole_file bytes at t.records le t.encoded t.each t.places;
   offsets_are = t.offsets_are;
   there = t.there;
 }

@@ -4,7 +4,7 @@ use Rattle.std.specs.Prelude.{MatchBool}
 use Rattle.std.proofs.lemmas.Bool.{cases_lt, cases_eq}
 use Rattle.price_form.specs.Octets.{none_number}
 use Rattle.price_form.specs.Reading.{plots_at, tracks_at, edges_at}
-use Rattle.price_form.specs.Fronts.{edges_place, pairing_place, IsOutOfRange, IsWrongEdge, HasWrongEdge, IsWrongEntry, HasWrongEntry, HasWrongNumber, no_plots, many_tracks, in_edges, in_pairing}
+use Rattle.price_form.specs.Prefixes.{edges_offset, pairing_offset, IsOutOfRange, IsWrongEdge, HasWrongEdge, IsWrongEntry, HasWrongEntry, HasWrongNumber, no_plots, many_tracks, in_edges, in_pairing}
 
 -- ---- a wrong number is whole
 
@@ -61,8 +61,8 @@ entries_more xs k from i no' here j lt h =
 
 -- no number is wrong of a certificate where none of the four kinds is
 pub none_wrong : (xs : List ℕ) (p : ℕ) → (p + 14 ≤ length xs → plots_at xs p ≡ 0 → ⊥) → (p + 18 ≤ length xs → tracks_at xs p ≡ none_number → ⊥)
-    → (edges_place xs p + 4 ≤ length xs → HasWrongEdge xs (plots_at xs p) (tracks_at xs p) (edges_at xs p) (edges_place xs p) → ⊥)
-    → (edges_place xs p + 4 ≤ length xs → HasWrongEntry xs (plots_at xs p) (tracks_at xs p) (pairing_place xs p) → ⊥) → HasWrongNumber xs p → ⊥
+    → (edges_offset xs p + 4 ≤ length xs → HasWrongEdge xs (plots_at xs p) (tracks_at xs p) (edges_at xs p) (edges_offset xs p) → ⊥)
+    → (edges_offset xs p + 4 ≤ length xs → HasWrongEntry xs (plots_at xs p) (tracks_at xs p) (pairing_offset xs p) → ⊥) → HasWrongNumber xs p → ⊥
 none_wrong xs p a b c d (no_plots le e) = a le e
 none_wrong xs p a b c d (many_tracks le e) = b le e
 none_wrong xs p a b c d (in_edges h) = c (omega (arith, edge_begun xs _ _ _ h.i h.wrong)) h
@@ -72,15 +72,15 @@ none_wrong xs p a b c d (in_pairing h) = d (omega (arith, h.wrong.0)) h
 
 -- what was read of the counts is what stands there
 pub edges_read : (xs : List ℕ) (p : ℕ) {n k m : ℕ} → n ≡ plots_at xs p → k ≡ tracks_at xs p → m ≡ edges_at xs p
-    → HasWrongEdge xs n k m (p + 18 + n * 8 + k * 8 + 4) → HasWrongEdge xs (plots_at xs p) (tracks_at xs p) (edges_at xs p) (edges_place xs p)
+    → HasWrongEdge xs n k m (p + 18 + n * 8 + k * 8 + 4) → HasWrongEdge xs (plots_at xs p) (tracks_at xs p) (edges_at xs p) (edges_offset xs p)
 edges_read xs p {n} {k} {m} a b c h =
-    let from : p + 18 + n * 8 + k * 8 + 4 ≡ edges_place xs p = omega (arith, a, b) in
+    let from : p + 18 + n * 8 + k * 8 + 4 ≡ edges_offset xs p = omega (arith, a, b) in
     subst (λ (t : ℕ × ℕ × ℕ × ℕ). HasWrongEdge xs t.0 t.1 t.2 t.3) (λ j. (a j, b j, c j, from j)) h
 
 pub entries_read : (xs : List ℕ) (p : ℕ) {n k m : ℕ} → n ≡ plots_at xs p → k ≡ tracks_at xs p → m ≡ edges_at xs p
-    → HasWrongEntry xs n k (p + 18 + n * 8 + k * 8 + 4 + m * 10) → HasWrongEntry xs (plots_at xs p) (tracks_at xs p) (pairing_place xs p)
+    → HasWrongEntry xs n k (p + 18 + n * 8 + k * 8 + 4 + m * 10) → HasWrongEntry xs (plots_at xs p) (tracks_at xs p) (pairing_offset xs p)
 entries_read xs p {n} {k} {m} a b c h =
-    let from : p + 18 + n * 8 + k * 8 + 4 + m * 10 ≡ pairing_place xs p = omega (arith, a, b, c) in
+    let from : p + 18 + n * 8 + k * 8 + 4 + m * 10 ≡ pairing_offset xs p = omega (arith, a, b, c) in
     subst (λ (t : ℕ × ℕ × ℕ). HasWrongEntry xs t.0 t.1 t.2) (λ j. (a j, b j, from j)) h
 
 -- the certificate that is begun, where its counts are whole
@@ -88,8 +88,8 @@ pub number_answer : (xs : List ℕ) (p : ℕ) (b : Bool) {n k m : ℕ} → n ≡
     → MatchBool b (HasWrongEntry xs n k (p + 18 + n * 8 + k * 8 + 4 + m * 10)) (HasWrongEntry xs n k (p + 18 + n * 8 + k * 8 + 4 + m * 10) → ⊥) → MatchBool b (HasWrongNumber xs p) (HasWrongNumber xs p → ⊥)
 number_answer xs p true a b c some few edges h = in_pairing (entries_read xs p a b c h)
 number_answer xs p false {n} {k} {m} a b c some few edges h =
-    let back : edges_place xs p ≡ p + 18 + n * 8 + k * 8 + 4 = omega (arith, a, b) in
-    let back' : pairing_place xs p ≡ p + 18 + n * 8 + k * 8 + 4 + m * 10 = omega (arith, a, b, c) in
+    let back : edges_offset xs p ≡ p + 18 + n * 8 + k * 8 + 4 = omega (arith, a, b) in
+    let back' : pairing_offset xs p ≡ p + 18 + n * 8 + k * 8 + 4 + m * 10 = omega (arith, a, b, c) in
     none_wrong xs p (λ le e. some (omega (arith, a, e))) (λ le e. few (omega (arith, b, e)))
     (λ le w. edges (subst (λ (t : ℕ × ℕ × ℕ × ℕ). HasWrongEdge xs t.0 t.1 t.2 t.3) (λ j. (sym a j, sym b j, sym c j, back j)) w))
     (λ le w. h (subst (λ (t : ℕ × ℕ × ℕ). HasWrongEntry xs t.0 t.1 t.2) (λ j. (sym a j, sym b j, back' j)) w))

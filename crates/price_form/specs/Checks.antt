@@ -1,7 +1,8 @@
 -- What the parts of a check find out.
 use Rattle.std.specs.Prelude.{◌≡◌, ◌<◌, ◌≤◌, ◌+◌, ◌-◌, ℕ, Bool, true, false, List, Option, Some, None, length, map, slice_index_or, ℤ, ◌+ℤ◌, ◌≤ℤ◌, pos, All}
 use Rattle.std.specs.List.{range_with_len}
-use Rattle.assignment_dual.specs.Pairings.{Row, MISS}
+use Rattle.trk_base.specs.Limits.{miss_cost}
+use Rattle.assignment_dual.specs.Pairings.{Row}
 use Rattle.assignment_dual.specs.Problems.{Edge, EdgeBefore, edge_at, row_of, price_at}
 
 abbrev pub Rises : List Edge → Type 0
@@ -34,7 +35,7 @@ EdgesHold us vs edges = All (λ e. (price_at us e.0 +ℤ price_at vs e.1) ≤ℤ
 
 -- prices that no plot alone, no track and no edge undercuts
 pub record AreFeasible (edges : List Edge) (us vs : List ℤ) : Type 0 where
-  pub below_miss : All (λ u. u ≤ℤ pos MISS) us
+  pub below_miss : All (λ u. u ≤ℤ pos miss_cost) us
   pub below_zero : All (λ v. v ≤ℤ pos 0) vs
   pub below_cost : EdgesHold us vs edges
 

@@ -9,7 +9,7 @@ use Rattle.price_form.specs.declared.certs.PriceRecord.TheVariants.{Edition, Cer
 use Rattle.price_form.specs.declared.certs.PricesError.{PricesError}
 use Rattle.price_form.specs.declared.certs.PricesError.TheVariants.{Fault, NoMemory}
 use Rattle.price_form.specs.Certificates.{IsCert}
-use Rattle.price_form.specs.Spelling.{record_octets}
+use Rattle.price_form.specs.Encoding.{price_record_octets}
 
 -- a certificate's numbers are in the ranges of their fields
 pub record IsInRange (c : Cert) : Type 0 where
@@ -36,32 +36,32 @@ StandsAt p (Certified c at) = at ≡ p
 
 abbrev pub StandFrom : ℕ → List PriceRecord → Type 0
 StandFrom p [] = ⊤
-StandFrom p (r ∷ rs) = StandsAt p r × StandFrom (p + length (record_octets r)) rs
+StandFrom p (r ∷ rs) = StandsAt p r × StandFrom (p + length (price_record_octets r)) rs
 
 -- four octets, and then records
 pub record ArePrices (bytes : List ℕ) (records : List PriceRecord) : Type 0 where
-  pub spelled : bytes ≡ magic ++ flat_map record_octets records
+  pub encoded : bytes ≡ magic ++ flat_map price_record_octets records
   pub each : All IsRecord records
   pub places : StandFrom 4 records
 
 -- there are octets, and they begin with no record
 pub record BeginNone (octets : List ℕ) : Type 0 where
   pub some_left : 0 < length octets
-  pub none : (r : PriceRecord) (rest : List ℕ) → IsRecord r → octets ≡ record_octets r ++ rest → ⊥
+  pub none : (r : PriceRecord) (rest : List ℕ) → IsRecord r → octets ≡ price_record_octets r ++ rest → ⊥
 
--- behind whole records begins none
+-- after whole records begins none
 pub record StopsAt (bytes : List ℕ) (offset : ℕ) : Type 0 where
   pub records : List PriceRecord
   pub rest : List ℕ
-  pub spelled : bytes ≡ magic ++ (flat_map record_octets records ++ rest)
+  pub encoded : bytes ≡ magic ++ (flat_map price_record_octets records ++ rest)
   pub each : All IsRecord records
   pub stops : BeginNone rest
-  pub place : offset ≡ length (magic ++ flat_map record_octets records)
+  pub place : offset ≡ length (magic ++ flat_map price_record_octets records)
 
 -- another beginning is a fault at the first octet
-abbrev pub IsFault : List ℕ → ℕ → Type 0
-IsFault bytes offset = (((rest : List ℕ) → bytes ≡ magic ++ rest → ⊥) × (offset ≡ 0)) ⊎ StopsAt bytes offset
+abbrev pub IsPriceFault : List ℕ → ℕ → Type 0
+IsPriceFault bytes offset = (((rest : List ℕ) → bytes ≡ magic ++ rest → ⊥) × (offset ≡ 0)) ⊎ StopsAt bytes offset
 
-abbrev pub IfFault : List ℕ → PricesError → Type 0
-IfFault bytes (Fault offset) = IsFault bytes offset
-IfFault bytes NoMemory = ⊤
+abbrev pub IfPriceFault : List ℕ → PricesError → Type 0
+IfPriceFault bytes (Fault offset) = IsPriceFault bytes offset
+IfPriceFault bytes NoMemory = ⊤

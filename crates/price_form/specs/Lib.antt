@@ -1,7 +1,7 @@
 pub mod Certificates
 pub mod Checks
 pub mod Octets
-pub mod Spelling
+pub mod Encoding
 pub mod Files
 pub mod Reading
-pub mod Fronts
+pub mod Prefixes

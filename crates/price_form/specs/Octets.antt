@@ -48,6 +48,6 @@ entry_of n = if n == none_number then None else Some n
 abbrev pub entry_number_at : List ℕ → ℕ → Option ℕ
 entry_number_at xs p = entry_of (half_at xs p)
 
--- count of them, one behind the other, each of so many octets
+-- count of them, one after the other, each of so many octets
 unfoldable pub many_at : {X : Type 0} → (List ℕ → ℕ → X) → ℕ → List ℕ → ℕ → ℕ → List X
 many_at read size xs p count = map (λ i. read xs (p + i * size)) (range_with_len 0 count)

@@ -7,7 +7,7 @@ use Rattle.price_form.specs.declared.certs.PriceRecord.TheVariants.{Edition, Cer
 use Rattle.price_form.specs.declared.reading.Counts.{Counts}
 use Rattle.price_form.specs.Certificates.{IsCert}
 use Rattle.price_form.specs.Octets.{half_at, word_at, price_number_at, edge_numbers_at, entry_number_at, many_at}
-use Rattle.price_form.specs.Spelling.{cert_octets, record_octets}
+use Rattle.price_form.specs.Encoding.{cert_octets, price_record_octets}
 use Rattle.price_form.specs.Files.{ArePrices, IsInRange, IsRecord, StandsAt}
 
 -- the piece stands in the octets from place p on
@@ -68,9 +68,9 @@ pub record ReadsCert (xs : List ℕ) (p : ℕ) (c : Cert) (end : ℕ) : Type 0 w
 -- a record stands at p, up to the end
 pub record ReadsRecord (xs : List ℕ) (p : ℕ) (r : PriceRecord) (end : ℕ) : Type 0 where
   pub formed : IsRecord r
-  pub stands : Stands xs p (record_octets r)
+  pub stands : Stands xs p (price_record_octets r)
   pub at : StandsAt p r
-  pub ends : end ≡ p + length (record_octets r)
+  pub ends : end ≡ p + length (price_record_octets r)
 
 -- no certificate stands at p
 abbrev pub ReadsNone : List ℕ → ℕ → Type 0
@@ -78,7 +78,7 @@ ReadsNone xs p = cert_end xs p ≤ length xs → IsCert (cert_read xs p) → IsP
 
 -- no record stands at p
 abbrev pub NoRecord : List ℕ → ℕ → Type 0
-NoRecord xs p = (r : PriceRecord) → IsRecord r → Stands xs p (record_octets r) → ⊥
+NoRecord xs p = (r : PriceRecord) → IsRecord r → Stands xs p (price_record_octets r) → ⊥
 
 -- the record of this certificate begins at p
 pub record HasCert (xs : List ℕ) (p : ℕ) (c : Cert) : Type 0 where

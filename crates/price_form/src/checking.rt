@@ -9,8 +9,9 @@ ghost use Rattle.price_form.specs.Reading.{HasCert};
 
 use crate::Cert;
 use crate::columns::{Column, Edges, Entries, Prices};
-use crate::pairs::{MISS, names_once, pairing_cost};
+use crate::pairs::{names_once, pairing_cost};
 use crate::reading::counts_of;
+use trk_base::MISS_COST;
 
 /// Whether no price is above `most`.
 fn are_at_most<P: Column<i64>>(prices: &P, most: i64) -> bool
@@ -69,7 +70,7 @@ fn are_feasible<E: Column<(u32, u32, u16)>, P: Column<i64>>(edges: &E, u: &P, v:
     requires tracks { All (λ e. e.1 < length (P.list v.now)) (E.list edges.now) }
     ensures { IsTrue result ↔ AreFeasible (E.list edges.now) (P.list u.now) (P.list v.now) }
 {
-    are_at_most(u, MISS as i64) && are_at_most(v, 0) && edges_hold(edges, u, v)
+    are_at_most(u, i64::from(MISS_COST)) && are_at_most(v, 0) && edges_hold(edges, u, v)
 }
 
 /// Whether the prices prove the pairing.

@@ -15,9 +15,9 @@
 mod certs;
 mod checking;
 mod columns;
-mod fronts;
 mod numbers;
 mod pairs;
+mod prefixes;
 mod reading;
 #[cfg(test)]
 mod tests;
@@ -25,6 +25,6 @@ mod writing;
 
 pub use certs::{Cert, PriceRecord, PricesError};
 pub use checking::{check, check_at};
-pub use fronts::{front_fault, front_fault_stays, one_front_fault};
+pub use prefixes::{one_prefix_fault, prefix_fault, prefix_fault_stays};
 pub use reading::{certificate_offsets, one_price_file, read_prices};
 pub use writing::{start_prices, write_cert, write_edition, written_prices};

@@ -5,9 +5,7 @@ ghost use Rattle.assignment_dual.specs.Problems.{row_of};
 ghost use Rattle.price_form.specs.Checks.{Rises, first_rows, NamesTwice, NamesOnce};
 
 use crate::columns::Column;
-
-/// What a plot costs that gets no track.
-pub(crate) const MISS: u64 = 4_097;
+use trk_base::MISS_COST;
 
 /// The cost of the edge between a plot and a track.
 fn edge_cost<E: Column<(u32, u32, u16)>>(edges: &E, plot: u32, track: u32) -> Option<u16>
@@ -37,7 +35,7 @@ fn entry_cost<E: Column<(u32, u32, u16)>>(edges: &E, plot: u32, entry: Option<u3
     ensures size { IfSome result (λ n. n ≤ 65535) }
 {
     match entry {
-        None => Some(MISS),
+        None => Some(u64::from(MISS_COST)),
         Some(track) => match edge_cost(edges, plot, track) {
             None => None,
             Some(cost) => Some(u64::from(cost)),

@@ -1,23 +1,21 @@
 ghost use Rattle.std.specs.Prelude.{◌≡◌, ◌<◌, ◌≤◌, ◌-◌, ◌↔◌, ◌⊎◌, ◌^◌, ℕ, List, IsTrue, MatchOption, MatchResult, IfSome, IfOk, All, length};
+ghost use Rattle.trk_base.specs.Limits.{gate_cost};
 ghost use Rattle.assignment_dual.specs.Problems.{IsProblem};
 ghost use Rattle.price_form.specs.declared.certs.Cert.{Cert};
 ghost use Rattle.price_form.specs.declared.certs.PriceRecord.{PriceRecord};
 ghost use Rattle.assignment_dual.specs.Problems.{EdgeBefore, edge_at};
 ghost use Rattle.price_form.specs.Reading.{end_of, cert_end, cert_read, HasCert, HasCounts, ReadsNone, ReadsCert, NoRecord, ReadsRecord, EndsRecord, AreOffsets};
-ghost use Rattle.price_form.specs.Files.{ArePrices, IsFault, IfFault};
+ghost use Rattle.price_form.specs.Files.{ArePrices, IsPriceFault, IfPriceFault};
 
 use crate::columns::{Column, Edges, Entries};
 use crate::numbers::{edges_at, entries_at, half_at, prices_at, word_at, words_at};
 use crate::{Cert, PriceRecord, PricesError};
 use assignment_dual::Costs;
 use std::alloc::Global;
-use trk_base::{NoMemory, Sequence};
+use trk_base::{GATE_COST, NoMemory, Sequence};
 
 /// What a price file begins with: `MRP1`.
 pub(crate) const MAGIC: [u8; 4] = [0x4D, 0x52, 0x50, 0x31];
-
-/// The greatest cost of an edge.
-pub(crate) const MOST: u16 = 4_096;
 
 /// How many plots, tracks and edges a certificate has.
 #[derive(Clone, Copy)]
@@ -93,9 +91,9 @@ pub(crate) fn is_before(edge: (u32, u32, u16), other: (u32, u32, u16)) -> bool
 
 /// Whether an edge's places are in range, and its cost is.
 fn is_edge(edge: (u32, u32, u16), plots: u32, tracks: u32) -> bool
-    ensures { IsTrue result ↔ ((edge.0 < plots) × (edge.1 < tracks) × (edge.2 ≤ 4096)) }
+    ensures { IsTrue result ↔ ((edge.0 < plots) × (edge.1 < tracks) × (edge.2 ≤ gate_cost)) }
 {
-    edge.0 < plots && edge.1 < tracks && edge.2 <= MOST
+    edge.0 < plots && edge.1 < tracks && edge.2 <= GATE_COST
 }
 
 /// Whether edges strictly rise, their places are in range and their costs are at most 4,096.
@@ -256,7 +254,7 @@ fn record_at(
 /// is neither `FFFFFFFF` nor in range. Another beginning than the four octets is a fault at 0.
 /// No more memory is asked for than a record's octets are there for.
 pub fn read_prices(alloc: Global, bytes: &[u8]) -> Result<Vec<PriceRecord>, PricesError>
-    ensures { MatchResult result (λ v. ArePrices bytes.now v.items) (IfFault bytes.now) }
+    ensures { MatchResult result (λ v. ArePrices bytes.now v.items) (IfPriceFault bytes.now) }
 {
     if !bytes.starts_with(&MAGIC) {
         return Err(PricesError::Fault { offset: 0 });
@@ -280,7 +278,7 @@ pub fn read_prices(alloc: Global, bytes: &[u8]) -> Result<Vec<PriceRecord>, Pric
 /// The grammar of the whole file is judged, and a fault is told as by [`read_prices`], but no
 /// certificate is taken out of the octets: [`check_at`](crate::check_at) judges them where they stand.
 pub fn certificate_offsets(alloc: Global, bytes: &[u8]) -> Result<Vec<usize>, PricesError>
-    ensures { MatchResult result (λ v. AreOffsets bytes.now v.items) (IfFault bytes.now) }
+    ensures { MatchResult result (λ v. AreOffsets bytes.now v.items) (IfPriceFault bytes.now) }
 {
     if !bytes.starts_with(&MAGIC) {
         return Err(PricesError::Fault { offset: 0 });
@@ -301,8 +299,8 @@ pub fn certificate_offsets(alloc: Global, bytes: &[u8]) -> Result<Vec<usize>, Pr
 
 /// Each list of octets is a price file, in one way, or has one fault.
 pub fn one_price_file()
-    ensures some { (bytes : List ℕ) → All (λ octet. octet < 256) bytes → ((records : List PriceRecord) × ArePrices bytes records) ⊎ ((offset : ℕ) × IsFault bytes offset) }
+    ensures some { (bytes : List ℕ) → All (λ octet. octet < 256) bytes → ((records : List PriceRecord) × ArePrices bytes records) ⊎ ((offset : ℕ) × IsPriceFault bytes offset) }
     ensures same_records { (bytes : List ℕ) (a b : List PriceRecord) → ArePrices bytes a → ArePrices bytes b → a ≡ b }
-    ensures same_fault { (bytes : List ℕ) (p q : ℕ) → IsFault bytes p → IsFault bytes q → p ≡ q }
-    ensures not_both { (bytes : List ℕ) (a : List PriceRecord) (p : ℕ) → ArePrices bytes a → IsFault bytes p → ⊥ }
+    ensures same_fault { (bytes : List ℕ) (p q : ℕ) → IsPriceFault bytes p → IsPriceFault bytes q → p ≡ q }
+    ensures not_both { (bytes : List ℕ) (a : List PriceRecord) (p : ℕ) → ArePrices bytes a → IsPriceFault bytes p → ⊥ }
 {}

@@ -1,4 +1,4 @@
-use crate::{PriceRecord, PricesError, check, front_fault, read_prices, write_cert};
+use crate::{PriceRecord, PricesError, check, prefix_fault, read_prices, write_cert};
 use std::alloc::Global;
 
 // An edition, and the certificate of one plot that gets no track: a price file, of which the last
@@ -114,22 +114,19 @@ fn tells_the_first_fault(rt: HostRuntime) {
     );
 }
 
-// The fault of a file, and of the front of it that ends at a place.
+// The fault of a file, and of the prefix of it that ends at a place.
 fn faults(alloc: Global, file: &[u8], end: usize) -> Option<(usize, usize)> {
     if file.len() < end {
         return None;
     }
     match read_prices(alloc, file) {
-        Err(PricesError::Fault { offset }) => Some((
-            offset,
-            front_fault(&file[..end]),
-        )),
+        Err(PricesError::Fault { offset }) => Some((offset, prefix_fault(&file[..end]))),
         _ => None,
     }
 }
 
 #[test]
-fn tells_the_fault_of_a_front(rt: HostRuntime) {
+fn tells_the_fault_of_a_prefix(rt: HostRuntime) {
     let alloc = rt.alloc();
     // A place of the tie, a wrong octet for it, and where the number that it makes wrong ends: the
     // first octet, no plots, an edge's plot, track and cost, an edge again, and a paired track.
@@ -149,17 +146,17 @@ fn tells_the_fault_of_a_front(rt: HostRuntime) {
 }
 
 #[test]
-fn tells_the_end_of_a_front(rt: HostRuntime) {
-    // In the four octets, behind a record, in an edition, in each part of a certificate, and behind it.
+fn tells_the_end_of_a_prefix(rt: HostRuntime) {
+    // In the four octets, after a record, in an edition, in each part of a certificate, and after it.
     for end in [0, 3, 4, 21, 30, 62, 63] {
-        assert_eq!(rt; front_fault(&ONE[..end]), end);
+        assert_eq!(rt; prefix_fault(&ONE[..end]), end);
     }
     for end in [5, 16, 20, 40, 56, 60, 76, 100, 120, 138] {
-        assert_eq!(rt; front_fault(&TIE[..end]), end);
+        assert_eq!(rt; prefix_fault(&TIE[..end]), end);
     }
     // Other octets than the four.
-    assert_eq!(rt; front_fault(&[0x4D, 0x53]), 0);
-    assert_eq!(rt; front_fault(&ONE[1..]), 0);
+    assert_eq!(rt; prefix_fault(&[0x4D, 0x53]), 0);
+    assert_eq!(rt; prefix_fault(&ONE[1..]), 0);
 }
 
 #[test]
@@ -167,11 +164,11 @@ fn asks_no_memory_for_counts_alone(rt: HostRuntime) {
     let alloc = rt.alloc();
     // 2^32 - 1 plots; as many tracks, which is more than there may be; as many edges, of which four
     // are there.
-    for (from, end, front) in [(14, 138, 138), (18, 138, 4), (54, 98, 98)] {
+    for (from, end, prefix) in [(14, 138, 138), (18, 138, 4), (54, 98, 98)] {
         let mut file = TIE;
         for at in from..from + 4 {
             file = with_octet(file, at, 0xFF);
         }
-        assert_eq!(rt; faults(alloc, &file[..end], end), Some((4, front)));
+        assert_eq!(rt; faults(alloc, &file[..end], end), Some((4, prefix)));
     }
 }

@@ -4,7 +4,7 @@ ghost use Rattle.std.specs.Int.{w32, w64, to_be_bytes};
 ghost use Rattle.price_form.specs.Certificates.{IsCert};
 ghost use Rattle.price_form.specs.declared.certs.PriceRecord.{PriceRecord};
 ghost use Rattle.price_form.specs.declared.certs.PriceRecord.TheVariants.{Edition};
-ghost use Rattle.price_form.specs.Spelling.{head_octets, gate_octets, proof_octets, cert_octets, record_octets};
+ghost use Rattle.price_form.specs.Encoding.{head_octets, gate_octets, proof_octets, cert_octets, price_record_octets};
 ghost use Rattle.price_form.specs.Files.{magic, IsRecord, StandFrom, ArePrices};
 
 use crate::Cert;
@@ -83,7 +83,7 @@ pub fn start_prices() -> [u8; 4]
 
 /// An edition's record of a price file: its number, and how many events of the log it covers.
 pub fn write_edition(alloc: Global, number: u64, cut: u64) -> Result<Vec<u8>, NoMemory>
-    ensures { IfOk result (λ v. v.items ≡ record_octets (Edition number cut)) }
+    ensures { IfOk result (λ v. v.items ≡ price_record_octets (Edition number cut)) }
 {
     let mut out = Vec::with_capacity(alloc, 17)?;
     out.push(1)?;
@@ -123,5 +123,5 @@ pub fn write_cert(alloc: Global, cert: &Cert) -> Result<Vec<u8>, NoMemory>
 /// The four octets and, after them, what is written of each record, are the price file of these
 /// records: [`read_prices`](crate::read_prices) reads them.
 pub fn written_prices()
-    ensures { (records : List PriceRecord) → All IsRecord records → StandFrom 4 records → ArePrices (magic ++ flat_map record_octets records) records }
+    ensures { (records : List PriceRecord) → All IsRecord records → StandFrom 4 records → ArePrices (magic ++ flat_map price_record_octets records) records }
 {}

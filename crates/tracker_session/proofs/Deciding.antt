@@ -7,7 +7,8 @@ use Rattle.std.proofs.lemmas.List.Elements.{All-nil, All-cons, All-head, All-tai
 use Rattle.std.specs.Ordering.{int_cmp, MatchOrdering}
 use Rattle.std.specs.declared.cmp.Ordering.{Ordering}
 use Rattle.std.specs.declared.cmp.Ordering.TheVariants.{Less, Equal, Greater}
-use Rattle.assignment_dual.specs.Pairings.{Row, Gates, AllGate, Misses, Once, IsPairing, MISS, cost}
+use Rattle.trk_base.specs.Limits.{miss_cost}
+use Rattle.assignment_dual.specs.Pairings.{Row, Gates, AllGate, Misses, Once, IsPairing, cost}
 use Rattle.assignment_dual.specs.Problems.{Problem, Edge, Proves, rows_of, price_at, total}
 use Rattle.price_form.specs.declared.certs.PriceRecord.{PriceRecord}
 use Rattle.price_form.specs.declared.certs.PriceRecord.TheVariants.{Edition, Cert as Certified}
@@ -99,7 +100,7 @@ proves p xs us vs =
     (both (pairing (rows_of p) xs)
     (both (cases_eq (length us) p.plots)
     (both (cases_eq (length vs) p.tracks)
-    (both (each (λ u. u ≤ℤ pos MISS) (λ u. at_most u (pos MISS)) us)
+    (both (each (λ u. u ≤ℤ pos miss_cost) (λ u. at_most u (pos miss_cost)) us)
     (both (each (λ v. v ≤ℤ pos 0) (λ v. at_most v (pos 0)) vs)
     (both (each (λ e. (price_at us e.0 +ℤ price_at vs e.1) ≤ℤ pos e.2) (λ (e : Edge). at_most (price_at us e.0 +ℤ price_at vs e.1) (pos e.2)) p.edges)
     (same_number (total us +ℤ total vs) (pos (cost (rows_of p) xs)))))))))

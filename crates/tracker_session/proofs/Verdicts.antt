@@ -5,10 +5,10 @@ use Rattle.std.proofs.lemmas.List.Elements.{All-nil, All-cons, All-head, All-tai
 use Rattle.price_form.specs.declared.certs.Cert.{Cert}
 use Rattle.price_form.specs.declared.certs.PriceRecord.{PriceRecord}
 use Rattle.price_form.specs.declared.certs.PriceRecord.TheVariants.{Edition, Cert as Certified}
-use Rattle.price_form.specs.Fronts.{IsFrontFault}
+use Rattle.price_form.specs.Prefixes.{IsPrefixFault}
 use Rattle.price_form.proofs.OneFile.{same_records, same_fault, not_both}
-use Rattle.price_form.proofs.OneFront.{one_fault}
-use Rattle.price_form.proofs.FrontFaults.{file_or_fault, some_fault}
+use Rattle.price_form.proofs.OnePrefix.{one_fault}
+use Rattle.price_form.proofs.PrefixFaults.{file_or_fault, some_fault}
 use Rattle.recording.proofs.Codes.{bytes_of}
 use Rattle.tracker_session.specs.Checking.{AllProve, Checks, FirstFails, HasFileFault, HasVerdict, IsFile, IsProved, Verdict, certificates_in, proved, fails, fault}
 use Rattle.tracker_session.specs.CheckRuns.{RecordFails}
@@ -25,7 +25,7 @@ checks_alike a b (fails index offset) (inr both) h = absurd (omega (arith, both.
 checks_alike a b (fault offset) (inr both) h =
     record {
       whole = λ short. absurd (omega (arith, both.long', short));
-      front = λ long. subst (λ (f : List ℕ). IsFrontFault f offset) both.front (h.front both.long);
+      front = λ long. subst (λ (f : List ℕ). IsPrefixFault f offset) both.front (h.front both.long);
     }
 
 -- ---- one at most

@@ -4,8 +4,8 @@ use Rattle.assignment_dual.specs.Problems.{Proves}
 use Rattle.price_form.specs.declared.certs.Cert.{Cert}
 use Rattle.price_form.specs.declared.certs.PriceRecord.{PriceRecord}
 use Rattle.price_form.specs.declared.certs.PriceRecord.TheVariants.{Edition, Cert as Certified}
-use Rattle.price_form.specs.Files.{ArePrices, IsFault}
-use Rattle.price_form.specs.Fronts.{IsFrontFault}
+use Rattle.price_form.specs.Files.{ArePrices, IsPriceFault}
+use Rattle.price_form.specs.Prefixes.{IsPrefixFault}
 use Rattle.tracker_session.specs.Inputs.{limit}
 
 -- a certificate proves its pairing; an edition has nothing to prove
@@ -45,8 +45,8 @@ pub record FirstFails (octets : List ℕ) (index offset : ℕ) : Type 0 where
 
 -- The octets are no price file, or pass the limit. Of those that pass it the fault is that of the front up to there.
 pub record HasFileFault (octets : List ℕ) (offset : ℕ) : Type 0 where
-  pub whole : length octets ≤ limit → IsFault octets offset
-  pub front : limit < length octets → IsFrontFault (take limit octets) offset
+  pub whole : length octets ≤ limit → IsPriceFault octets offset
+  pub front : limit < length octets → IsPrefixFault (take limit octets) offset
 
 -- so many certificates, all of which prove; or the first that doesn't, by its number from 0 and its place; or the place of the first fault
 pub data Verdict : Type 0 where

@@ -10,7 +10,7 @@ use crate::reading::read_place;
 use crate::status::Status;
 use crate::streams::LIMIT;
 use io_traits::{Host, Place};
-use price_form::{PriceRecord, PricesError, check, front_fault, read_prices};
+use price_form::{PriceRecord, PricesError, check, prefix_fault, read_prices};
 use rayon::prelude::*;
 use std::alloc::{AllocError, Global};
 use std::thread::Threads;
@@ -48,7 +48,7 @@ fn take_records(alloc: Global, octets: &[u8]) -> Result<Vec<PriceRecord>, Status
     ensures stops { IfErr result (StopsTaking octets.now) }
 {
     if octets.len() > LIMIT {
-        return match front_fault(alloc, &octets[..LIMIT]) {
+        return match prefix_fault(alloc, &octets[..LIMIT]) {
             Ok(offset) => Err(Status::Input { offset }),
             Err(NoMemory) => Err(Status::Memory),
         };

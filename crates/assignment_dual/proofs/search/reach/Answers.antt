@@ -1,6 +1,6 @@
 use Rattle.std.proofs.Common.{◌≡◌, ℕ, get_or, List, ap, subst, ◌∙◌}
 use Rattle.assignment_dual.specs.declared.search.Node.{Node}
-use Rattle.assignment_dual.specs.Search.{no_node, vertex_at, mate_at, IsEnd, AreParted}
+use Rattle.assignment_dual.specs.Search.{no_node, vertex_at, mate_at, IsEnd, AreUnmatched}
 use Rattle.assignment_dual.proofs.Columns.{node_read}
 use Rattle.assignment_dual.proofs.Paths.{turning_first, turning_apart, turning_step}
 use Rattle.assignment_dual.proofs.search.reach.Goals as goal
@@ -9,9 +9,9 @@ pub path-init : goal.path-init
 path-init c =
     let en : IsEnd c.args.prices.now c.args.mates.now c.grow.new.tree.items c.in-Some.end = rw c.in-Some.is at c.in_ok-end.ensures.answer in
     let v : c.index.result.now.vertex ≡ vertex_at c.grow.new.tree.items c.in-Some.end = ap (λ (o : Node). o.vertex) (node_read c.grow.new.tree.items c.in-Some.end c.index.result.now en.inside c.index.ensures) in
-    let m : c.part.result ≡ mate_at c.args.mates.now c.grow.new.tree.items c.in-Some.end = c.part.ensures.mate ∙ ap (λ (o : ℕ). get_or c.args.mates.now o 0) v in
-    let p : AreParted c.args.mates.now c.part.new.mates (vertex_at c.grow.new.tree.items c.in-Some.end) (mate_at c.args.mates.now c.grow.new.tree.items c.in-Some.end) =
-    subst (λ (o : ℕ). AreParted c.args.mates.now c.part.new.mates o (mate_at c.args.mates.now c.grow.new.tree.items c.in-Some.end)) v (subst (AreParted c.args.mates.now c.part.new.mates c.index.result.now.vertex) m c.part.ensures.parted) in
+    let m : c.unmatch.result ≡ mate_at c.args.mates.now c.grow.new.tree.items c.in-Some.end = c.unmatch.ensures.mate ∙ ap (λ (o : ℕ). get_or c.args.mates.now o 0) v in
+    let p : AreUnmatched c.args.mates.now c.unmatch.new.mates (vertex_at c.grow.new.tree.items c.in-Some.end) (mate_at c.args.mates.now c.grow.new.tree.items c.in-Some.end) =
+    subst (λ (o : ℕ). AreUnmatched c.args.mates.now c.unmatch.new.mates o (mate_at c.args.mates.now c.grow.new.tree.items c.in-Some.end)) v (subst (AreUnmatched c.args.mates.now c.unmatch.new.mates c.index.result.now.vertex) m c.unmatch.ensures.parted) in
     turning_first c.requires.graph c.requires.mates c.in_ok-end.ensures.tree c.requires.alone en p
 
 pub take-requires-clause-other : goal.take-requires-clause-other

@@ -1,7 +1,7 @@
 use Rattle.std.proofs.Common.{◌≡◌, ◌≢◌, ◌<◌, ℕ, length, get_or, true, List, arith, subst, sym, ◌∙◌, ap, ◌-◌}
 use Rattle.std.proofs.lemmas.List.{length-set}
 use Rattle.assignment_dual.specs.declared.search.Node.{Node}
-use Rattle.assignment_dual.specs.Pairings.{MISS}
+use Rattle.trk_base.specs.Limits.{miss_cost}
 use Rattle.assignment_dual.specs.Search.{mate_at}
 use Rattle.assignment_dual.proofs.Turns.{across_differ}
 use Rattle.assignment_dual.proofs.Trees.{Opened, opened, open_pays, end_pushed, sweeping_opened, sweeping_closed}
@@ -22,8 +22,8 @@ returns-then-mates-y-clause-answer c =
     let xl : c.mate_of-x.result < length c.args.prices.now = subst (λ (v : ℕ). v < length c.args.prices.now) (sym xe) (c.requires.mates.within _ (c.requires.tree.within c.args.at c.requires.at)) in
     let o : Opened c.args.graph.now c.args.prices.now c.args.mates.now c.args.seen.now c.loop-k.seen c.args.tree.now.items c.loop-k.tree.items c.in-Some.y c.args.at =
     opened c.requires.graph c.requires.mates c.requires.alone c.loop-k.invariant c.requires.at xe xl c.in-Some.ensures.answer.0 c.in-Some.ensures.answer.1 c.in-Some.ensures.answer.2 in
-    let b : get_or c.args.prices.now c.mate_of-x.result 0 ≢ MISS = subst (λ (v : ℕ). get_or c.args.prices.now v 0 ≢ MISS) (sym xe) c.requires.below in
-    let f : get_or c.args.prices.now c.in-Some.y 0 ≡ MISS = open_pays c.requires.priced c.requires.pay (across_differ o.side) c.in-Some.ensures.answer.1 c.if-mates-y.true b c.in-Some.ensures.answer.0 in
+    let b : get_or c.args.prices.now c.mate_of-x.result 0 ≢ miss_cost = subst (λ (v : ℕ). get_or c.args.prices.now v 0 ≢ miss_cost) (sym xe) c.requires.below in
+    let f : get_or c.args.prices.now c.in-Some.y 0 ≡ miss_cost = open_pays c.requires.priced c.requires.pay (across_differ o.side) c.in-Some.ensures.answer.1 c.if-mates-y.true b c.in-Some.ensures.answer.0 in
     let n : length c.loop-k.tree.items ≡ c.len.result - 1 = omega (arith, c.len.ensures, c.in_ok-push.ensures.len, c.loop-k.tree.ok.0) in
     rw c.in_ok-push.ensures.items (rw (sym n) (end_pushed c.args.at c.loop-k.invariant.paired c.if-mates-y.true f))
 

@@ -47,5 +47,5 @@ pushed {p} {e} {new} h a b c d q = subst (λ (o : List Edge). IsProblem (record 
 pub invariant_of-costs : goal.invariant_of-costs
 invariant_of-costs c =
     let b : (i : ℕ) → i + 1 ≡ length c.costs.inside.edges → EdgeBefore (edge_at c.costs.inside.edges i) c.args.edge =
-    subst (λ (o : List Edge). (i : ℕ) → i + 1 ≡ length o → EdgeBefore (edge_at o i) c.args.edge) c.as_slice.ensures (c.if-is_behind.ensures refl) in
+    subst (λ (o : List Edge). (i : ℕ) → i + 1 ≡ length o → EdgeBefore (edge_at o i) c.args.edge) c.as_slice.ensures (c.if-is_after.ensures refl) in
     pushed c.costs.invariant (omega (arith, c.if-edge-costs.false)) (omega (arith, c.if-edge-costs-2.false)) (omega (arith, c.if-edge-gt4096.false)) b c.in_ok-push.ensures.ok

@@ -1,5 +1,5 @@
 use Rattle.std.proofs.Common.{◌≡◌, ◌<◌, ℕ, length, get_or, List, Bool, true, false, arith, refl, sym, ◌∙◌, ap, subst, get_or-set_same}
-use Rattle.assignment_dual.specs.Vertices.{to_of, AreResting}
+use Rattle.assignment_dual.specs.Vertices.{to_of, IsOptimal}
 use Rattle.assignment_dual.proofs.Candidates.{Tried, tried, track_here, trying_next, fixed_track, fixed_none, fixed_pair, others_track, others_none}
 use Rattle.assignment_dual.proofs.tie.fix_plot.Goals as goal
 
@@ -31,8 +31,8 @@ pub returns-then-from-sum-clause-fixed : goal.returns-then-from-sum-clause-fixed
 returns-then-from-sum-clause-fixed c =
     let t : Tried c.args.graph.now (length c.args.prices.now) c.args.gone.now c.index-arc.result.now (get_or c.args.tight.now c.loop-k.k-index 0) =
     tried c.requires.graph c.requires.tight c.requires.p c.requires.plots c.loop-k.k-index c.index-arc.result.now c.loop-k-test.true c.index-arc.ensures in
-    let r : AreResting c.args.graph.now (length c.args.prices.now) c.take_out-in-loop-k.new.prices c.take_out-in-loop-k.new.mates c.take_out-in-loop-k.new.gone =
-    subst (λ (n : ℕ). AreResting c.args.graph.now n c.take_out-in-loop-k.new.prices c.take_out-in-loop-k.new.mates c.take_out-in-loop-k.new.gone) c.loop-k.invariant.0.resting.priced.count c.in_ok-take_out-2.ensures.resting in
+    let r : IsOptimal c.args.graph.now (length c.args.prices.now) c.take_out-in-loop-k.new.prices c.take_out-in-loop-k.new.mates c.take_out-in-loop-k.new.gone =
+    subst (λ (n : ℕ). IsOptimal c.args.graph.now n c.take_out-in-loop-k.new.prices c.take_out-in-loop-k.new.mates c.take_out-in-loop-k.new.gone) c.loop-k.invariant.0.resting.priced.count c.in_ok-take_out-2.ensures.resting in
     fixed_track c.requires.graph c.requires.resting c.requires.count c.requires.tight c.loop-k.k-index c.index-arc.result.now.to c.index-arc.result.now.cost c.sum-whole.result
     c.loop-k-test.true t.to t.cost t.low c.sum-whole.ensures.sum c.loop-k.invariant.0 c.in_ok-take_out-2.ensures.gone r (omega (arith, c.if-from-sum.true, c.from.ensures, c.sum.ensures.sum))
 
@@ -47,10 +47,10 @@ pub loop-k-preserved : goal.loop-k-preserved
 loop-k-preserved c =
     let t : Tried c.args.graph.now (length c.args.prices.now) c.args.gone.now c.index-arc.result.now (get_or c.args.tight.now c.loop-k.k-index 0) =
     tried c.requires.graph c.requires.tight c.requires.p c.requires.plots c.loop-k.k-index c.index-arc.result.now c.loop-k-test.true c.index-arc.ensures in
-    let r : AreResting c.args.graph.now (length c.args.prices.now) c.take_out-in-loop-k.new.prices c.take_out-in-loop-k.new.mates c.take_out-in-loop-k.new.gone =
-    subst (λ (n : ℕ). AreResting c.args.graph.now n c.take_out-in-loop-k.new.prices c.take_out-in-loop-k.new.mates c.take_out-in-loop-k.new.gone) c.loop-k.invariant.0.resting.priced.count c.in_ok-take_out-2.ensures.resting in
-    let q : AreResting c.args.graph.now (length c.args.prices.now) c.put_back.new.prices c.put_back.new.mates c.put_back.new.gone =
-    subst (λ (n : ℕ). AreResting c.args.graph.now n c.put_back.new.prices c.put_back.new.mates c.put_back.new.gone) r.priced.count c.in_ok-put_back.ensures.resting in
+    let r : IsOptimal c.args.graph.now (length c.args.prices.now) c.take_out-in-loop-k.new.prices c.take_out-in-loop-k.new.mates c.take_out-in-loop-k.new.gone =
+    subst (λ (n : ℕ). IsOptimal c.args.graph.now n c.take_out-in-loop-k.new.prices c.take_out-in-loop-k.new.mates c.take_out-in-loop-k.new.gone) c.loop-k.invariant.0.resting.priced.count c.in_ok-take_out-2.ensures.resting in
+    let q : IsOptimal c.args.graph.now (length c.args.prices.now) c.put_back.new.prices c.put_back.new.mates c.put_back.new.gone =
+    subst (λ (n : ℕ). IsOptimal c.args.graph.now n c.put_back.new.prices c.put_back.new.mates c.put_back.new.gone) r.priced.count c.in_ok-put_back.ensures.resting in
     let h : get_or c.loop-k.gone c.index-arc.result.now.to false ≡ false = ap (λ (o : List Bool). get_or o c.index-arc.result.now.to false) c.loop-k.invariant.0.fixed ∙ track_here t c.requires.p in (
       trying_next c.loop-k.invariant.0 (get_or c.args.tight.now c.loop-k.k-index 0) c.index-arc.result.now.to c.index-arc.result.now.cost refl t.to t.cost h
           c.take_out-in-loop-k.new.prices c.take_out-in-loop-k.new.mates c.put_back.new.prices c.put_back.new.mates c.take_out-in-loop-k.new.gone c.put_back.new.gone

@@ -3,7 +3,7 @@ use Rattle.cluster_split.specs.Leasts.{Falls}
 use Rattle.cluster_split.proofs.Labels.{falls_set, skipped}
 use Rattle.cluster_split.proofs.leasts.least_of.Goals as goal
 
--- the plot on the way, the next one and the one behind it
+-- the plot on the way, the next one and the one after it
 way_down : (lower : List ℕ) (at : ℕ) → Falls lower → at < length lower → (get_or lower at 0 < length lower) × (get_or lower at 0 ≤ at) × (get_or lower (get_or lower at 0) 0 ≤ get_or lower at 0)
 way_down lower at falls lt =
     let down = falls at lt in

@@ -4,7 +4,7 @@ use Rattle.std.specs.List.Sorted.{IsNonDecreasingBy}
 use Rattle.std.proofs.lemmas.List.Sorted.{All-permutation}
 use Rattle.cluster_split.specs.declared.splitting.Component.{Component}
 use Rattle.cluster_split.specs.Leasts.{AreLeasts}
-use Rattle.cluster_split.specs.Parts.{AreSettled, AreGrouped, ArePlaces, parts_of}
+use Rattle.cluster_split.specs.Grouping.{AreLabelled, AreGrouped, AreIndices, components_of}
 use Rattle.cluster_split.proofs.Classes.{all_steps, settled_leasts, few_places}
 use Rattle.cluster_split.proofs.splitting.components.Goals as goal
 
@@ -21,14 +21,14 @@ least_plots-requires-clause-inside c = subst (All (λ e. e.0 < c.args.plots)) (s
 pub least_plots-requires-clause-sorted : goal.least_plots-requires-clause-sorted
 least_plots-requires-clause-sorted c = subst (IsNonDecreasingBy (λ e. e.1)) (sym c.deref.ensures.value) c.in_ok-by_track.ensures.sorted
 
-pub parts_of_plots-requires-clause-few : goal.parts_of_plots-requires-clause-few
-parts_of_plots-requires-clause-few c =
+pub components_of_plots-requires-clause-few : goal.components_of_plots-requires-clause-few
+components_of_plots-requires-clause-few c =
     let h = leasts_as c.deref.ensures.value c.in_ok-least.ensures in
     omega (arith, h.long, ap length c.deref-2.ensures.value, c.ranges.plots.fits)
 
-pub parts_of_plots-requires-clause-settled : goal.parts_of_plots-requires-clause-settled
-parts_of_plots-requires-clause-settled c =
-    subst AreSettled (sym c.deref-2.ensures.value) (settled_leasts c.args.plots c.in_ok-by_track.by_track.items _ (leasts_as c.deref.ensures.value c.in_ok-least.ensures))
+pub components_of_plots-requires-clause-settled : goal.components_of_plots-requires-clause-settled
+components_of_plots-requires-clause-settled c =
+    subst AreLabelled (sym c.deref-2.ensures.value) (settled_leasts c.args.plots c.in_ok-by_track.by_track.items _ (leasts_as c.deref.ensures.value c.in_ok-least.ensures))
 
 pub add_tracks-requires-clause-inside : goal.add_tracks-requires-clause-inside
 add_tracks-requires-clause-inside c =
@@ -46,11 +46,11 @@ add_tracks-requires-clause-places c =
 
 -- what `add_tracks` says of what it was lent, said of what that is
 tracks_as : {lent places : List ℕ} {lent' edges : List (ℕ × ℕ)} {before parts : List Component} → lent ≡ places → lent' ≡ edges
-    → ((l : List ℕ) → ArePlaces l lent → before ≡ parts_of l lent' (length lent) 0 → parts ≡ parts_of l lent' (length lent) (length lent'))
-    → (l : List ℕ) → ArePlaces l places → before ≡ parts_of l edges (length places) 0 → parts ≡ parts_of l edges (length places) (length edges)
+    → ((l : List ℕ) → AreIndices l lent → before ≡ components_of l lent' (length lent) 0 → parts ≡ components_of l lent' (length lent) (length lent'))
+    → (l : List ℕ) → AreIndices l places → before ≡ components_of l edges (length places) 0 → parts ≡ components_of l edges (length places) (length edges)
 tracks_as {lent} {places} {lent'} {edges} {before} {parts} e f h =
-    subst (λ xs. (l : List ℕ) → ArePlaces l xs → before ≡ parts_of l edges (length xs) 0 → parts ≡ parts_of l edges (length xs) (length edges)) e
-    (subst (λ es. (l : List ℕ) → ArePlaces l lent → before ≡ parts_of l es (length lent) 0 → parts ≡ parts_of l es (length lent) (length es)) f h)
+    subst (λ xs. (l : List ℕ) → AreIndices l xs → before ≡ components_of l edges (length xs) 0 → parts ≡ components_of l edges (length xs) (length edges)) e
+    (subst (λ es. (l : List ℕ) → AreIndices l lent → before ≡ components_of l es (length lent) 0 → parts ≡ components_of l es (length lent) (length es)) f h)
 
 pub returns : goal.returns
 returns c =

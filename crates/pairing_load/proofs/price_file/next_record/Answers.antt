@@ -5,7 +5,7 @@ use Rattle.std.specs.List.{All}
 use Rattle.std.specs.declared.alloc.Global.{Global}
 use Rattle.rand_pcg.specs.Lcg.{Lcg}
 use Rattle.price_form.specs.declared.certs.Cert.{Cert}
-use Rattle.price_form.specs.Spelling.{cert_octets}
+use Rattle.price_form.specs.Encoding.{cert_octets}
 use Rattle.pairing_load.specs.Certificates.{IsLoadCert}
 use Rattle.pairing_load.specs.PriceFiles.{RecordMade}
 use Rattle.pairing_load.proofs.Certs.{cert_formed, record_made}

@@ -1,7 +1,7 @@
 use Rattle.std.proofs.Common.{rules, get_or, pos}
 use Rattle.std.specs.Int.{w64}
 use Rattle.std.specs.Prelude.{FitsSigned}
-use Rattle.price_form.proofs.Spelled.{price_more}
+use Rattle.price_form.proofs.Encoded.{price_more}
 use Rattle.price_form.proofs.numbers.put_prices.Goals as goal
 
 pub loop-price-preserved : goal.loop-price-preserved

@@ -37,8 +37,7 @@ loop-i-preserved g c =
 pub returns : goal.returns
 returns g c =
     let edges = g.E.Column.list c.args.edges.now in
-    let h = c.loop-i.invariant in
-    (
+    let h = c.loop-i.invariant in (
       (λ t. record {
         rising = λ a b lt in'. h.rising a b lt (omega (arith, in', c.loop-i-test.false, c.len-i-end.ensures));
         plots = all_edges edges (λ e. e.0 < c.args.plots) c.loop-i.i (omega (arith, c.loop-i-test.false, c.len-i-end.ensures)) h.plots;

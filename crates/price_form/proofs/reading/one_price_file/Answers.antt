@@ -1,5 +1,5 @@
 use Rattle.price_form.proofs.OneFile.{same_records, same_fault, not_both}
-use Rattle.price_form.proofs.FrontFaults.{file_or_fault}
+use Rattle.price_form.proofs.PrefixFaults.{file_or_fault}
 use Rattle.price_form.proofs.Standing.{are_octets}
 use Rattle.price_form.proofs.reading.one_price_file.Goals as goal
 

@@ -9,7 +9,7 @@ returns-in-None c =
     let bytes = c.args.bytes.now in
     let at = c.loop-at.at in
     let h = subst (λ o. MatchOption o (NoRecord bytes at) (λ r. ReadsRecord bytes at r.0 r.1)) c.in-None.is c.in_ok-record_at.ensures in
-    inr (stops_here bytes at c.loop-at.records.items c.loop-at-test.true c.loop-at.invariant.spelled c.loop-at.invariant.each h)
+    inr (stops_here bytes at c.loop-at.records.items c.loop-at-test.true c.loop-at.invariant.encoded c.loop-at.invariant.each h)
 
 pub loop-at-smaller : goal.loop-at-smaller
 loop-at-smaller c =
@@ -17,7 +17,7 @@ loop-at-smaller c =
     let at = c.loop-at.at in
     let i = c.loop-at.invariant in
     let h = subst (λ o. MatchOption o (NoRecord bytes at) (λ r. ReadsRecord bytes at r.0 r.1)) c.in-Some.is c.in_ok-record_at.ensures in
-    let more = one_record bytes at c.in-Some.end c.loop-at.records.items c.in-Some.found i.inside i.spelled i.each i.places h in
+    let more = one_record bytes at c.in-Some.end c.loop-at.records.items c.in-Some.found i.inside i.encoded i.each i.places h in
     omega (arith, more.inside, more.on)
 
 pub loop-at-preserved : goal.loop-at-preserved
@@ -26,5 +26,5 @@ loop-at-preserved c =
     let at = c.loop-at.at in
     let i = c.loop-at.invariant in
     let h = subst (λ o. MatchOption o (NoRecord bytes at) (λ r. ReadsRecord bytes at r.0 r.1)) c.in-Some.is c.in_ok-record_at.ensures in
-    let more = more_as c.in_ok-push-in-Some.ensures.items (one_record bytes at c.in-Some.end c.loop-at.records.items c.in-Some.found i.inside i.spelled i.each i.places h) in
-    record { inside = more.inside; spelled = more.spelled; each = more.each; places = more.places }
+    let more = more_as c.in_ok-push-in-Some.ensures.items (one_record bytes at c.in-Some.end c.loop-at.records.items c.in-Some.found i.inside i.encoded i.each i.places h) in
+    record { inside = more.inside; encoded = more.encoded; each = more.each; places = more.places }

@@ -1,13 +1,13 @@
 use Rattle.std.proofs.Common.{◌≡◌, ◌≤◌, ◌-◌, ◌++◌, length, take}
 use Rattle.std.specs.List.{All, flat_map}
 use Rattle.price_form.specs.Files.{IsRecord, StandFrom, magic}
-use Rattle.price_form.specs.Spelling.{record_octets}
+use Rattle.price_form.specs.Encoding.{price_record_octets}
 use Rattle.price_form.proofs.reading.read_prices.Given as goal
 
 abbrev pub invariant-loop-at : goal.invariant-loop-at
 invariant-loop-at l = record {
   inside : l.at ≤ length l.bytes;
-  spelled : take l.at l.bytes ≡ magic ++ flat_map record_octets l.records.items;
+  encoded : take l.at l.bytes ≡ magic ++ flat_map price_record_octets l.records.items;
   each : All IsRecord l.records.items;
   places : StandFrom 4 l.records.items;
 }

@@ -1,5 +1,5 @@
 use Rattle.std.proofs.Common.{◌∙◌}
-use Rattle.price_form.proofs.Spelled.{whole_cert}
+use Rattle.price_form.proofs.Encoded.{whole_cert}
 use Rattle.price_form.proofs.writing.write_cert.Goals as goal
 
 pub returns : goal.returns

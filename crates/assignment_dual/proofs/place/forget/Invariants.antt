@@ -1,5 +1,0 @@
-use Rattle.assignment_dual.proofs.Settling.{ForgottenBelow}
-use Rattle.assignment_dual.proofs.place.forget.Given as goal
-
-abbrev pub invariant-loop-node : goal.invariant-loop-node
-invariant-loop-node l = ForgottenBelow l.seen l.tree l.node-index

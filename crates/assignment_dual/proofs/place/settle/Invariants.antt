@@ -1,9 +1,0 @@
-use Rattle.std.proofs.Common.{◌≡◌, ◌-◌, get_or}
-use Rattle.assignment_dual.proofs.Settling.{Settling}
-use Rattle.assignment_dual.proofs.place.settle.Given as goal
-
-abbrev pub invariant-rounds : goal.invariant-rounds
-invariant-rounds l = (l.mates ≡ l.fn.mates) × Settling l.graph l.fn.prices l.fn.mates l.prices l.seen l.tree.items l.x
-
-abbrev pub decreases-rounds : goal.decreases-rounds
-decreases-rounds l = 4097 - get_or l.prices l.x 0

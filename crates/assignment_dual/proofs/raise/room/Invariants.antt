@@ -1,5 +1,0 @@
-use Rattle.assignment_dual.proofs.Shifts.{Roomy}
-use Rattle.assignment_dual.proofs.raise.room.Given as goal
-
-abbrev pub invariant-loop-k : goal.invariant-loop-k
-invariant-loop-k l = Roomy l.graph l.prices l.seen l.x l.k l.room

@@ -1,5 +1,0 @@
-use Rattle.cluster_split.specs.Parts.{AreGrouped}
-use Rattle.cluster_split.proofs.parts.parts_of_plots.Given as goal
-
-abbrev pub invariant-loop-plot : goal.invariant-loop-plot
-invariant-loop-plot l = AreGrouped l.least l.plot l.parts.items l.places.items

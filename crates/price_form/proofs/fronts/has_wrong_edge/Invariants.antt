@@ -1,5 +1,0 @@
-use Rattle.price_form.proofs.WrongNumbers.{NoWrongEdge}
-use Rattle.price_form.proofs.fronts.has_wrong_edge.Given as goal
-
-abbrev pub invariant-loop-i : goal.invariant-loop-i
-invariant-loop-i l = NoWrongEdge l.octets l.counts.plots l.counts.tracks l.from l.i
