@@ -3,19 +3,19 @@ use Rattle.std.proofs.Common.{◌≡◌, ◌∙◌, ap, sym, refl, subst, append
 use Rattle.std.specs.Int.{w16, to_be_bytes}
 use Rattle.std.proofs.lemmas.Bool.{cases_lt}
 use Rattle.std.proofs.lemmas.List.{length-take-le, take-append-drop}
-use Rattle.asterix_frame.specs.Blocks.{DataBlock, IsDataBlock, BeginsNone, spelled}
+use Rattle.asterix_frame.specs.Blocks.{DataBlock, IsDataBlock, BeginsNone, encoded}
 use Rattle.asterix_frame.proofs.Heads.{same_block, two_octets}
 use Rattle.recording.specs.Blocks.{IsNoBlock, IsTruncatedBlock}
 use Rattle.recording.proofs.Codes.{IsCode, IsBytes, Begins, Decides, truncated_first}
 use Rattle.recording.proofs.Zeros.{zeros, length-zeros}
 
 abbrev BeginsBlock : List ℕ → Type 0
-BeginsBlock = Begins DataBlock IsDataBlock spelled IsNoBlock IsTruncatedBlock
+BeginsBlock = Begins DataBlock IsDataBlock encoded IsNoBlock IsTruncatedBlock
 
-spelled_some : (b : DataBlock) → 0 < length (spelled b)
-spelled_some b = omega arith
+encoded_some : (b : DataBlock) → 0 < length (encoded b)
+encoded_some b = omega arith
 
-block_is : (category high low : ℕ) (body : List ℕ) → high < 256 → low < 256 → length body + 3 ≡ 256 * high + low → spelled (record { category = category; body = body }) ≡ category ∷ high ∷ low ∷ body
+block_is : (category high low : ℕ) (body : List ℕ) → high < 256 → low < 256 → length body + 3 ≡ 256 * high + low → encoded (record { category = category; body = body }) ≡ category ∷ high ∷ low ∷ body
 block_is category high low body h l long = ap (λ (t : List ℕ). category ∷ (t ++ body)) (ap (to_be_bytes w16) long ∙ two_octets high low h l)
 
 cut_head : (rest more : List ℕ) (category high low : ℕ) (body : List ℕ) → high < 256 → low < 256 → length body + 3 ≡ 256 * high + low → 0 < length rest → 0 < length more → category ∷ high ∷ low ∷ body ≡ rest ++ more → IsTruncatedBlock rest
@@ -59,8 +59,8 @@ begins (a ∷ b ∷ c ∷ rest) bytes some =
       ]
     ]
 
-pub blocks_decided : Decides DataBlock IsDataBlock spelled IsNoBlock IsTruncatedBlock
-blocks_decided = record { some = spelled_some; begins = begins }
+pub blocks_decided : Decides DataBlock IsDataBlock encoded IsNoBlock IsTruncatedBlock
+blocks_decided = record { some = encoded_some; begins = begins }
 
 no_block : IsNoBlock [] → ⊥
 no_block h = h
@@ -71,16 +71,16 @@ no_block_on (a ∷ []) more h = absurd h
 no_block_on (a ∷ b ∷ []) more h = absurd h
 no_block_on (a ∷ b ∷ c ∷ rest) more h = h
 
-no_block_first : (b : DataBlock) (more : List ℕ) → IsDataBlock b → IsNoBlock (spelled b ++ more) → ⊥
+no_block_first : (b : DataBlock) (more : List ℕ) → IsDataBlock b → IsNoBlock (encoded b ++ more) → ⊥
 no_block_first b more fits h = omega (arith, fits, h)
 
 other_cut : (rest : List ℕ) → IsNoBlock rest → IsTruncatedBlock rest → ⊥
-other_cut rest o h = no_block_first h.one [] h.fits (subst IsNoBlock (sym h.whole ∙ sym (append-nil (spelled h.one))) (no_block_on rest h.more o))
+other_cut rest o h = no_block_first h.one [] h.fits (subst IsNoBlock (sym h.whole ∙ sym (append-nil (encoded h.one))) (no_block_on rest h.more o))
 
-pub blocks_code : IsCode DataBlock IsDataBlock spelled IsNoBlock IsTruncatedBlock
+pub blocks_code : IsCode DataBlock IsDataBlock encoded IsNoBlock IsTruncatedBlock
 blocks_code =
     record {
-      some = spelled_some;
+      some = encoded_some;
       same = same_block;
       other_some = no_block;
       goes_on = no_block_on;

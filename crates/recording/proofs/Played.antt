@@ -5,7 +5,7 @@ use Rattle.std.specs.Option.{unwrap_or}
 use Rattle.std.specs.List.{AllByRecursion}
 use Rattle.std.proofs.lemmas.List.{map-append}
 use Rattle.std.proofs.lemmas.List.Concat.{flat_map-append}
-use Rattle.asterix_frame.specs.Blocks.{DataBlock, IsDataBlock, spelled, spelling}
+use Rattle.asterix_frame.specs.Blocks.{DataBlock, IsDataBlock, encoded, encoding}
 use Rattle.recording.specs.declared.ending.Ending.{Ending}
 use Rattle.recording.specs.declared.item.Item as declared
 use Rattle.recording.specs.declared.raw.Clock.{Clock}
@@ -26,23 +26,23 @@ none = record { start = 0; last = 0 }
 
 pub record HasProgress (octets : List ℕ) (from : ℕ) (p : Player) : Type 0 where
   pub blocks : List TimedBlock
-  pub prefix : PrefixOf DataBlock IsDataBlock spelled octets (blocks_of blocks) (drop from octets)
+  pub prefix : PrefixOf DataBlock IsDataBlock encoded octets (blocks_of blocks) (drop from octets)
   pub timed : AllByRecursion HasTimes blocks
-  pub place : from ≡ length (spelling (blocks_of blocks))
+  pub place : from ≡ length (encoding (blocks_of blocks))
   pub played : HasPlayed blocks p
 
-spelling_push : (bs : List DataBlock) (b : DataBlock) → spelling (bs ++ b ∷ []) ≡ spelling bs ++ spelled b
-spelling_push bs b = flat_map-append spelled bs (b ∷ []) ∙ ap (λ t. spelling bs ++ t) (append-nil (spelled b))
+encoding_push : (bs : List DataBlock) (b : DataBlock) → encoding (bs ++ b ∷ []) ≡ encoding bs ++ encoded b
+encoding_push bs b = flat_map-append encoded bs (b ∷ []) ∙ ap (λ t. encoding bs ++ t) (append-nil (encoded b))
 
 -- one more block
-pub progress_more : (octets : List ℕ) (from next : ℕ) (p p' : Player) (b : TimedBlock) → HasProgress octets from p → IsDataBlock b.block → HasTimes b → drop from octets ≡ spelled b.block ++ drop next octets → next ≡ from + length (spelled b.block) → ((bs : List TimedBlock) → HasPlayed bs p → HasPlayed (bs ++ b ∷ []) p') → HasProgress octets next p'
+pub progress_more : (octets : List ℕ) (from next : ℕ) (p p' : Player) (b : TimedBlock) → HasProgress octets from p → IsDataBlock b.block → HasTimes b → drop from octets ≡ encoded b.block ++ drop next octets → next ≡ from + length (encoded b.block) → ((bs : List TimedBlock) → HasPlayed bs p → HasPlayed (bs ++ b ∷ []) p') → HasProgress octets next p'
 progress_more octets from next p p' b h fits times e to plays =
     let all : blocks_of (h.blocks ++ b ∷ []) ≡ blocks_of h.blocks ++ b.block ∷ [] = map-append (λ (b : TimedBlock). b.block) h.blocks (b ∷ []) in
     record {
       blocks = h.blocks ++ b ∷ [];
-      prefix = subst (λ t. PrefixOf DataBlock IsDataBlock spelled octets t (drop next octets)) (sym all) (prefix_push octets (drop from octets) (drop next octets) (blocks_of h.blocks) b.block h.prefix fits e);
+      prefix = subst (λ t. PrefixOf DataBlock IsDataBlock encoded octets t (drop next octets)) (sym all) (prefix_push octets (drop from octets) (drop next octets) (blocks_of h.blocks) b.block h.prefix fits e);
       timed = all_push HasTimes h.blocks b h.timed times;
-      place = omega (arith, to, h.place, length-append (spelling (blocks_of h.blocks)) (spelled b.block), ap length (spelling_push (blocks_of h.blocks) b.block)) ∙ sym (ap (λ t. length (spelling t)) all);
+      place = omega (arith, to, h.place, length-append (encoding (blocks_of h.blocks)) (encoded b.block), ap length (encoding_push (blocks_of h.blocks) b.block)) ∙ sym (ap (λ t. length (encoding t)) all);
       played = plays h.blocks h.played;
     }
 
@@ -66,7 +66,7 @@ played_at bs None played w =
 played_at bs (Some k) played s = (s.start, s.items ∙ ap (λ t. items_from t bs) s.start, s.last ∙ ap (λ t. last_from t bs) s.start)
 
 some_items : (last : ℕ) (b : TimedBlock) (bs : List TimedBlock) → [] ≡ items_from last (b ∷ bs) → ⊥
-some_items last b bs e = omega (arith, ap length e, length-append (ticks (tick_before last b.times)) (datagram 0 (spelled b.block) ∷ items_from (last_tick last (tick_before last b.times)) bs))
+some_items last b bs e = omega (arith, ap length e, length-append (ticks (tick_before last b.times)) (datagram 0 (encoded b.block) ∷ items_from (last_tick last (tick_before last b.times)) bs))
 
 no_items : (item : declared.Item) (items : List declared.Item) → items_of (item ∷ items) ≡ [] → ⊥
 no_items item items e = omega (arith, ap length e)

@@ -3,7 +3,7 @@ use Rattle.std.proofs.Common.{◌≡◌, ◌∙◌, ap, sym, refl, ℕ, ◌+◌,
 use Rattle.std.specs.Prelude.{Option, Some, None, if◌then◌else◌}
 use Rattle.std.proofs.lemmas.Bool.{lt-leb}
 use Rattle.std.proofs.lemmas.List.Concat.{flat_map-append}
-use Rattle.asterix_frame.specs.Blocks.{spelled}
+use Rattle.asterix_frame.specs.Blocks.{encoded}
 use Rattle.recording.specs.declared.raw.Clock.{Clock}
 use Rattle.recording.specs.Items.{Item, datagram}
 use Rattle.recording.specs.Raw.{TimedBlock, all_times, whole_seconds, start_at, start_of, tick_at, tick_before, last_tick, ticks, items_from, last_from}
@@ -11,13 +11,13 @@ use Rattle.recording.specs.Playing.{Started, Waiting, IsPlayed, clock_behind, cl
 
 -- the items that a block brings
 abbrev pub brings : ℕ → TimedBlock → List Item
-brings last b = ticks (tick_before last b.times) ++ datagram 0 (spelled b.block) ∷ []
+brings last b = ticks (tick_before last b.times) ++ datagram 0 (encoded b.block) ∷ []
 
 items_push : (last : ℕ) (bs : List TimedBlock) (b : TimedBlock) → items_from last (bs ++ b ∷ []) ≡ items_from last bs ++ brings (last_from last bs) b
 items_push last [] b = refl
 items_push last (x ∷ bs) b =
-    ap (λ t. ticks (tick_before last x.times) ++ datagram 0 (spelled x.block) ∷ t) (items_push (last_tick last (tick_before last x.times)) bs b)
-    ∙ sym (append_assoc (ticks (tick_before last x.times)) (datagram 0 (spelled x.block) ∷ items_from (last_tick last (tick_before last x.times)) bs) (brings (last_from (last_tick last (tick_before last x.times)) bs) b))
+    ap (λ t. ticks (tick_before last x.times) ++ datagram 0 (encoded x.block) ∷ t) (items_push (last_tick last (tick_before last x.times)) bs b)
+    ∙ sym (append_assoc (ticks (tick_before last x.times)) (datagram 0 (encoded x.block) ∷ items_from (last_tick last (tick_before last x.times)) bs) (brings (last_from (last_tick last (tick_before last x.times)) bs) b))
 
 last_push : (last : ℕ) (bs : List TimedBlock) (b : TimedBlock) → last_from last (bs ++ b ∷ []) ≡ last_tick (last_from last bs) (tick_before (last_from last bs) b.times)
 last_push last [] b = refl
@@ -72,28 +72,28 @@ ready_more bs b clock played s =
       last = s.last;
     }
 
-started : (bs : List TimedBlock) (b : TimedBlock) (k : Clock) (found : Option ℕ) (played : List Item) → Ready bs b k played → tick_before k.last b.times ≡ found → Started (bs ++ b ∷ []) (record { start = k.start; last = last_tick k.last found }) (played ++ (ticks found ++ datagram 0 (spelled b.block) ∷ []))
+started : (bs : List TimedBlock) (b : TimedBlock) (k : Clock) (found : Option ℕ) (played : List Item) → Ready bs b k played → tick_before k.last b.times ≡ found → Started (bs ++ b ∷ []) (record { start = k.start; last = last_tick k.last found }) (played ++ (ticks found ++ datagram 0 (encoded b.block) ∷ []))
 started bs b k found played r t =
     let at : tick_before (last_from k.start bs) b.times ≡ found = ap (λ l. tick_before l b.times) (sym r.last) ∙ t in
     record {
       some = r.some;
       start = r.start;
-      items = (λ i. r.items i ++ (ticks (sym at i) ++ datagram 0 (spelled b.block) ∷ [])) ∙ sym (items_push k.start bs b);
+      items = (λ i. r.items i ++ (ticks (sym at i) ++ datagram 0 (encoded b.block) ∷ [])) ∙ sym (items_push k.start bs b);
       last = (λ i. last_tick (r.last i) (sym at i)) ∙ sym (last_push k.start bs b);
     }
 
 -- a block before the first time of day
-waiting : (bs : List TimedBlock) (b : TimedBlock) (played : List Item) → b.times ≡ [] → Waiting bs played → Waiting (bs ++ b ∷ []) (played ++ datagram 0 (spelled b.block) ∷ [])
+waiting : (bs : List TimedBlock) (b : TimedBlock) (played : List Item) → b.times ≡ [] → Waiting bs played → Waiting (bs ++ b ∷ []) (played ++ datagram 0 (encoded b.block) ∷ [])
 waiting bs b played e w =
     record {
       none = times_push bs b ∙ (λ i. w.none i ++ e i);
       items = λ last.
           let still : tick_before (last_from last bs) b.times ≡ None = ap (tick_before (last_from last bs)) e ∙ no_tick (last_from last bs) in
-          (λ i. w.items last i ++ (ticks (sym still i) ++ datagram 0 (spelled b.block) ∷ [])) ∙ sym (items_push last bs b);
+          (λ i. w.items last i ++ (ticks (sym still i) ++ datagram 0 (encoded b.block) ∷ [])) ∙ sym (items_push last bs b);
     }
 
 -- one more block
-pub played_more : (bs : List TimedBlock) (b : TimedBlock) (clock : Option Clock) (times : List ℕ) (played : List Item) → b.times ≡ times → IsPlayed bs clock played → IsPlayed (bs ++ b ∷ []) (clock_behind (clock_with clock times) (tick_of (clock_with clock times) times)) (played ++ (ticks (tick_of (clock_with clock times) times) ++ datagram 0 (spelled b.block) ∷ []))
+pub played_more : (bs : List TimedBlock) (b : TimedBlock) (clock : Option Clock) (times : List ℕ) (played : List Item) → b.times ≡ times → IsPlayed bs clock played → IsPlayed (bs ++ b ∷ []) (clock_behind (clock_with clock times) (tick_of (clock_with clock times) times)) (played ++ (ticks (tick_of (clock_with clock times) times) ++ datagram 0 (encoded b.block) ∷ []))
 played_more bs b (Some clock) times played e h = started bs b clock (tick_before clock.last times) played (ready_more bs b clock played h) (ap (tick_before clock.last) e)
 played_more bs b None [] played e h = waiting bs b played e h
 played_more bs b None (time ∷ times) played e h =

@@ -2,7 +2,7 @@
 use Rattle.std.proofs.Common.{◌≡◌, ◌∙◌, ap, refl, subst, inl, inr, ℕ, ◌<◌, ◌≤◌, List, [], ◌∷◌, ◌++◌, length, arith, append_assoc}
 use Rattle.std.specs.Prelude.{true, Option, Some, None}
 use Rattle.std.specs.List.{flat_map}
-use Rattle.asterix_frame.specs.Blocks.{spelling}
+use Rattle.asterix_frame.specs.Blocks.{encoding}
 use Rattle.recording.specs.declared.ending.Ending.{Ending}
 use Rattle.recording.specs.declared.ending.Ending.TheVariants.{Nothing, Other, Cut}
 use Rattle.recording.specs.declared.header.Header.{Header}
@@ -60,7 +60,7 @@ recording_on prefix more header start items offset before h =
 
 raw_on : (prefix more : List ℕ) (start : ℕ) (items : List Item) (offset : ℕ) → 9 ≤ length prefix → offset < length prefix → IsRaw prefix true start items (Some offset) → IsReading (prefix ++ more) None start items (Some offset)
 raw_on prefix more start items offset long before h =
-    let f = faulty h.ending offset (length (spelling (blocks_of h.blocks))) (length prefix) h.fault_is before in
+    let f = faulty h.ending offset (length (encoding (blocks_of h.blocks))) (length prefix) h.fault_is before in
     record {
       other_beginning = still_other prefix more long h.other_beginning;
       blocks = h.blocks;

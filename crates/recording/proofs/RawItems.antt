@@ -3,7 +3,7 @@ use Rattle.std.proofs.Common.{sym, subst, inl, inr, ℕ, suc, ◌+◌, ◌<◌, 
 use Rattle.std.specs.Prelude.{Bool, true, false, Option, Some, None, IfSome, nat_le, if◌then◌else◌}
 use Rattle.std.specs.List.{AllByRecursion}
 use Rattle.std.proofs.lemmas.Bool.Decides.{leb_tells}
-use Rattle.asterix_frame.specs.Blocks.{IsDataBlock, spelled}
+use Rattle.asterix_frame.specs.Blocks.{IsDataBlock, encoded}
 use Rattle.recording.specs.declared.header.Header.TheVariants.{Second}
 use Rattle.recording.specs.Items.{Item, IsItem, datagram}
 use Rattle.recording.specs.Raw.{TimedBlock, blocks_of, second, whole_seconds, latest, tick_at, tick_before, last_tick, last_from, ticks, start_of, items_from, closing}
@@ -37,7 +37,7 @@ all_append (x ∷ xs) ys h k = (h.0, all_append xs ys h.1 k)
 items_fit : (last : ℕ) (bs : List TimedBlock) → AllByRecursion IsDataBlock (blocks_of bs) → AllByRecursion (IsItem Second) (items_from last bs)
 items_fit last [] h = tt
 items_fit last (b ∷ bs) h =
-    all_append (ticks (tick_before last b.times)) (datagram 0 (spelled b.block) ∷ items_from (last_tick last (tick_before last b.times)) bs)
+    all_append (ticks (tick_before last b.times)) (datagram 0 (encoded b.block) ∷ items_from (last_tick last (tick_before last b.times)) bs)
     (ticks_fit (tick_before last b.times) (before_fits last b.times))
     ((omega arith, omega (arith, h.0)), items_fit (last_tick last (tick_before last b.times)) bs h.1)
 

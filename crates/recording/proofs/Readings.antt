@@ -3,11 +3,11 @@ use Rattle.std.proofs.Common.{◌≡◌, ◌∙◌, ap, sym, refl, subst, inl, i
 use Rattle.std.specs.Prelude.{Bool, Option, Some, None}
 use Rattle.std.specs.List.{AllByRecursion}
 use Rattle.asterix_frame.specs.declared.tables.Uap.{Uap}
-use Rattle.asterix_frame.specs.Blocks.{DataBlock, spelling}
+use Rattle.asterix_frame.specs.Blocks.{DataBlock, encoding}
 use Rattle.asterix_frame.specs.Tables.{category_of}
 use Rattle.asterix_frame.specs.DataRecords.{IsDataRecord}
 use Rattle.asterix_frame.specs.Bodies.{BodyFault, body_of, times_of}
-use Rattle.asterix_frame.specs.Datagrams.{Content, IsContent, IsRead, block_of, times_of_content}
+use Rattle.asterix_frame.specs.Datagrams.{Content, IsContent, IsReadCategory, block_of, times_of_content}
 use Rattle.asterix_frame.specs.Datagrams as datagrams
 use Rattle.asterix_frame.proofs.Bodies.{one_list, not_both}
 use Rattle.recording.specs.declared.header.Header.{Header}
@@ -44,13 +44,13 @@ no_starts_same octets g h s t xs ys f k a b =
 
 -- ---- the raw form
 
-categories : (uap uap' : Uap) → IsRead uap → IsRead uap' → category_of uap ≡ category_of uap' → uap ≡ uap'
+categories : (uap uap' : Uap) → IsReadCategory uap → IsReadCategory uap' → category_of uap ≡ category_of uap' → uap ≡ uap'
 categories uap uap' (inl a) (inl b) e = a ∙ sym b
 categories uap uap' (inl a) (inr b) e = absurd (omega (arith, sym (ap category_of a) ∙ e ∙ ap category_of b))
 categories uap uap' (inr a) (inl b) e = absurd (omega (arith, sym (ap category_of a) ∙ e ∙ ap category_of b))
 categories uap uap' (inr a) (inr b) e = a ∙ sym b
 
-other_category : (uap : Uap) (category : ℕ) → IsRead uap → category ≢ 34 → category ≢ 48 → category_of uap ≡ category → ⊥
+other_category : (uap : Uap) (category : ℕ) → IsReadCategory uap → category ≢ 34 → category ≢ 48 → category_of uap ≡ category → ⊥
 other_category uap category (inl a) n m e = n (sym e ∙ ap category_of a)
 other_category uap category (inr a) n m e = m (sym e ∙ ap category_of a)
 
@@ -93,7 +93,7 @@ raws_same : (octets : List ℕ) (goes_on : Bool) (s t : ℕ) (xs ys : List Item)
 raws_same octets goes_on s t xs ys f g h k =
     let things = written_same blocks_code octets (blocks_of h.blocks) (blocks_of k.blocks) h.ending k.ending h.blocks_are k.blocks_are in
     let timed = timed_same h.blocks k.blocks things.0 h.timed k.timed in
-    let fault : f ≡ g = h.fault_is ∙ (λ i. fault_of (things.1 i) goes_on (length (spelling (things.0 i))) (length octets)) ∙ sym k.fault_is in
+    let fault : f ≡ g = h.fault_is ∙ (λ i. fault_of (things.1 i) goes_on (length (encoding (things.0 i))) (length octets)) ∙ sym k.fault_is in
     (h.start_is ∙ ap start_of timed ∙ sym k.start_is, h.items_are ∙ (λ i. raw_items (timed i) (fault i)) ∙ sym k.items_are, fault)
 
 -- ---- both

@@ -5,10 +5,10 @@ use Rattle.std.specs.List.{AllByRecursion}
 use Rattle.std.proofs.lemmas.Bool.{cases_eq}
 use Rattle.asterix_frame.specs.declared.tables.Uap.{Uap}
 use Rattle.asterix_frame.specs.declared.tables.Uap.TheVariants.{Cat034, Cat048}
-use Rattle.asterix_frame.specs.Blocks.{DataBlock, IsDataBlock, spelling}
+use Rattle.asterix_frame.specs.Blocks.{DataBlock, IsDataBlock, encoding}
 use Rattle.asterix_frame.specs.Tables.{category_of}
 use Rattle.asterix_frame.specs.Bodies.{times_of}
-use Rattle.asterix_frame.specs.Datagrams.{IsRead}
+use Rattle.asterix_frame.specs.Datagrams.{IsReadCategory}
 use Rattle.asterix_frame.specs.Datagrams as datagrams
 use Rattle.asterix_frame.proofs.Bodies.{some_reading}
 use Rattle.recording.specs.declared.header.Header.{Header}
@@ -56,7 +56,7 @@ record TimedSo (b : DataBlock) : Type 0 where
   times : List ℕ
   has : HasTimes (record { block = b; times = times })
 
-timed_read : (uap : Uap) (b : DataBlock) → IsRead uap → b.category ≡ category_of uap → IsDataBlock b → TimedSo b
+timed_read : (uap : Uap) (b : DataBlock) → IsReadCategory uap → b.category ≡ category_of uap → IsDataBlock b → TimedSo b
 timed_read uap b read category fits =
     elim (some_reading uap b.body) [
       | inl (rs, body) ↦ (
@@ -91,7 +91,7 @@ read_blocks : (octets : List ℕ) (goes_on : Bool) → IsBytes octets → HasHea
 read_blocks octets goes_on bytes other =
     let blocks = some_written blocks_decided octets bytes in
     let timed = all_timed blocks.things blocks.written.fit in
-    let fault = fault_of blocks.ending goes_on (length (spelling (blocks_of timed.timed))) (length octets) in
+    let fault = fault_of blocks.ending goes_on (length (encoding (blocks_of timed.timed))) (length octets) in
     record {
       header = None;
       start = start_of timed.timed;

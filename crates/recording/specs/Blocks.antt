@@ -1,6 +1,6 @@
 -- The data blocks of the raw form, one after the other.
 use Rattle.std.specs.Prelude.{◌<◌, ℕ, ◌+◌, ◌*◌, List, ◌∷◌}
-use Rattle.asterix_frame.specs.Blocks.{DataBlock, IsDataBlock, spelled}
+use Rattle.asterix_frame.specs.Blocks.{DataBlock, IsDataBlock, encoded}
 use Rattle.recording.specs.declared.ending.Ending.{Ending}
 use Rattle.recording.specs.Endings.{IsTruncated, EndsSo, AreWritten}
 
@@ -11,11 +11,11 @@ IsNoBlock octets = ⊥
 
 -- a prefix of a block, and not all of it: a head that isn't whole, or a length that reaches past the end
 abbrev pub IsTruncatedBlock : List ℕ → Type 0
-IsTruncatedBlock = IsTruncated DataBlock IsDataBlock spelled
+IsTruncatedBlock = IsTruncated DataBlock IsDataBlock encoded
 
 abbrev pub BlocksEnd : Ending → List ℕ → Type 0
 BlocksEnd = EndsSo IsNoBlock IsTruncatedBlock
 
 -- the octets are these blocks, and then what ends them so
 abbrev pub AreBlocks : List ℕ → List DataBlock → Ending → Type 0
-AreBlocks = AreWritten DataBlock IsDataBlock spelled IsNoBlock IsTruncatedBlock
+AreBlocks = AreWritten DataBlock IsDataBlock encoded IsNoBlock IsTruncatedBlock

@@ -1,7 +1,7 @@
 -- How far the blocks of the raw form were played.
 use Rattle.std.specs.Prelude.{◌≡◌, ◌<◌, ◌^◌, ℕ, ◌+◌, List, [], ◌∷◌, length, Option, Some, None}
 use Rattle.std.specs.List.{AllByRecursion}
-use Rattle.asterix_frame.specs.Blocks.{spelling}
+use Rattle.asterix_frame.specs.Blocks.{encoding}
 use Rattle.recording.specs.declared.ending.Ending.{Ending}
 use Rattle.recording.specs.declared.item.Item.{Item}
 use Rattle.recording.specs.declared.raw.Clock.{Clock}
@@ -63,5 +63,5 @@ pub record PlaysAll (octets : List ℕ) (p : Player) (ending : Ending) (place : 
   pub blocks : List TimedBlock
   pub blocks_are : AreBlocks octets (blocks_of blocks) ending
   pub timed : AllByRecursion HasTimes blocks
-  pub place_is : place ≡ length (spelling (blocks_of blocks))
+  pub place_is : place ≡ length (encoding (blocks_of blocks))
   pub played : HasPlayed blocks p

@@ -2,7 +2,7 @@
 use Rattle.std.specs.Prelude.{◌^◌, ℕ, ◌+◌, ◌*◌, ◌/◌, max, nat_lt, nat_le, if◌then◌else◌, List, [], ◌∷◌, ◌++◌, map, fold, Option, Some, None}
 use Rattle.std.specs.List.{flat_map}
 use Rattle.trk_base.specs.Numbers.{unwrapped}
-use Rattle.asterix_frame.specs.Blocks.{DataBlock, spelled}
+use Rattle.asterix_frame.specs.Blocks.{DataBlock, encoded}
 use Rattle.recording.specs.Items.{Item, datagram, tick}
 
 -- a block, with the times of day in it, in the order of its octets; one that is malformed has none
@@ -56,7 +56,7 @@ ticks (Some time) = tick time ∷ []
 -- the items of the blocks that follow a last tick
 abbrev pub items_from : ℕ → List TimedBlock → List Item
 items_from last [] = []
-items_from last (b ∷ bs) = ticks (tick_before last b.times) ++ datagram 0 (spelled b.block) ∷ items_from (last_tick last (tick_before last b.times)) bs
+items_from last (b ∷ bs) = ticks (tick_before last b.times) ++ datagram 0 (encoded b.block) ∷ items_from (last_tick last (tick_before last b.times)) bs
 
 -- the last tick of these items
 abbrev pub last_from : ℕ → List TimedBlock → ℕ

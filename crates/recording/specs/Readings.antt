@@ -1,7 +1,7 @@
 -- What is read of octets: the header, a start, items, and the offset of the first fault.
 use Rattle.std.specs.Prelude.{◌≡◌, ◌≢◌, ◌<◌, ◌^◌, ◌⊎◌, ℕ, Bool, true, false, List, [], ◌∷◌, ◌++◌, length, Option, Some, None}
 use Rattle.std.specs.List.{flat_map, AllByRecursion}
-use Rattle.asterix_frame.specs.Blocks.{spelling}
+use Rattle.asterix_frame.specs.Blocks.{encoding}
 use Rattle.recording.specs.declared.ending.Ending.{Ending}
 use Rattle.recording.specs.declared.header.Header.{Header}
 use Rattle.recording.specs.declared.header.Header.TheVariants.{First, Second}
@@ -60,7 +60,7 @@ pub record IsRaw (octets : List ℕ) (goes_on : Bool) (start : ℕ) (items : Lis
   pub blocks_are : AreBlocks octets (blocks_of blocks) ending
   pub timed : AllByRecursion HasTimes blocks
   pub start_is : start ≡ start_of blocks
-  pub fault_is : fault ≡ fault_of ending goes_on (length (spelling (blocks_of blocks))) (length octets)
+  pub fault_is : fault ≡ fault_of ending goes_on (length (encoding (blocks_of blocks))) (length octets)
   pub items_are : items ≡ raw_items blocks fault
 
 abbrev pub HasContents : List ℕ → Bool → Option Header → ℕ → List Item → Option ℕ → Type 0

@@ -4,13 +4,13 @@ use Rattle.asterix_frame.specs.declared.tables.Uap.{Uap}
 use Rattle.asterix_frame.specs.Blocks.{DataBlock}
 use Rattle.asterix_frame.specs.Tables.{category_of}
 use Rattle.asterix_frame.specs.Bodies.{BodyFault}
-use Rattle.asterix_frame.specs.Datagrams.{Content, IsContent, IsRead, block_of, times_of_content}
+use Rattle.asterix_frame.specs.Datagrams.{Content, IsContent, IsReadCategory, block_of, times_of_content}
 use Rattle.recording.specs.Raw.{TimedBlock}
 
 -- The block is of category 34 or 48, and its body isn't whole records.
 pub record IsMalformed (b : DataBlock) : Type 0 where
   pub uap : Uap
-  pub is_read : IsRead uap
+  pub is_read : IsReadCategory uap
   pub category : b.category ≡ category_of uap
   pub place : ℕ
   pub cause : ℕ

@@ -2,7 +2,7 @@
 ghost use Rattle.std.specs.Prelude.{◌≡◌, ◌<◌, ◌≤◌, ◌^◌, ◌+◌, ◌∷◌, [], ◌++◌, ℕ, List, All, None, IfOk, IfSome, OnOk};
 ghost use Rattle.std.specs.List.{AllByRecursion};
 ghost use Rattle.trk_base.specs.Numbers.{day};
-ghost use Rattle.asterix_frame.specs.Blocks.{BeginsNone, spelled};
+ghost use Rattle.asterix_frame.specs.Blocks.{BeginsNone, encoded};
 ghost use Rattle.recording.specs.Blocks.{BlocksEnd};
 ghost use Rattle.recording.specs.Raw.{TimedBlock, latest, tick_at, tick_before, ticks};
 ghost use Rattle.recording.specs.Playing.{InRange, HasPlayed, PlaysAll, clock_behind, clock_with, closing_tick, tick_of};
@@ -149,7 +149,7 @@ impl<'a> Player<'a> {
     fn take(&mut self, octets: &'a [u8], times: &[u32]) -> Result<(), NoMemory>
         requires in_range { IfSome self.old.clock InRange }
         requires times { All (λ tod. tod < day) times.now }
-        ensures played { OnOk result ((bs : List TimedBlock) (b : TimedBlock) → b.times ≡ times.now → spelled b.block ≡ octets.now → HasPlayed bs self.old → HasPlayed (bs ++ b ∷ []) self.new) }
+        ensures played { OnOk result ((bs : List TimedBlock) (b : TimedBlock) → b.times ≡ times.now → encoded b.block ≡ octets.now → HasPlayed bs self.old → HasPlayed (bs ++ b ∷ []) self.new) }
         ensures in_range { OnOk result (IfSome self.new.clock InRange) }
     {
         let clock = clock_with(self.clock, times);

@@ -3,10 +3,10 @@ ghost use Rattle.std.specs.Prelude.{◌≡◌, ◌≢◌, ◌<◌, All, IfOk, If
 ghost use Rattle.std.specs.List.{filter_map};
 ghost use Rattle.trk_base.specs.Numbers.{day};
 ghost use Rattle.asterix_frame.specs.Blocks.{IsDataBlock};
-ghost use Rattle.asterix_frame.specs.Bodies.{AreSpans, parts_at};
+ghost use Rattle.asterix_frame.specs.Bodies.{AreSpans, elements_at};
 ghost use Rattle.asterix_frame.specs.DataRecords.{time_of};
-ghost use Rattle.asterix_frame.specs.Datagrams.{IsRead};
-ghost use Rattle.asterix_frame.specs.Places.{data_block};
+ghost use Rattle.asterix_frame.specs.Datagrams.{IsReadCategory};
+ghost use Rattle.asterix_frame.specs.Offsets.{data_block};
 ghost use Rattle.asterix_frame.specs.Tables.{category_of};
 ghost use Rattle.recording.specs.Times.{HasTimes};
 
@@ -16,7 +16,7 @@ use trk_base::NoMemory;
 
 // The items of a category whose records are read.
 fn uap_of(category: u8) -> Option<Uap>
-    ensures read { IfSome result (λ uap. IsRead uap × (category ≡ category_of uap)) }
+    ensures read { IfSome result (λ uap. IsReadCategory uap × (category ≡ category_of uap)) }
     ensures other { IfNone result ((category ≢ 34) × (category ≢ 48)) }
 {
     match category {
@@ -46,7 +46,7 @@ pub(crate) fn times_of(alloc: Global, block: &Block<'_>) -> Result<Vec<u32>, NoM
 // The times of day of a body's records.
 fn times_in(alloc: Global, uap: Uap, body: &[u8], found: &[ItemSpans]) -> Result<Vec<u32>, NoMemory>
     requires { All (AreSpans body.now) found.now }
-    ensures { IfOk result (λ v. v.items ≡ filter_map (λ s. time_of uap (parts_at body.now s.frns.items)) found.now) }
+    ensures { IfOk result (λ v. v.items ≡ filter_map (λ s. time_of uap (elements_at body.now s.frns.items)) found.now) }
 {
     let mut times = Vec::new(alloc);
     for spans in found {

@@ -1,7 +1,7 @@
 use Rattle.std.proofs.Common.{rules, ◌≡◌, ◌∙◌, ap, sym, length, arith, drop, take, ◌+◌, ◌-◌, ◌++◌}
 use Rattle.std.proofs.lemmas.List.{take_at}
-use Rattle.asterix_frame.specs.Blocks.{spelled}
-use Rattle.asterix_frame.specs.Places.{data_block}
+use Rattle.asterix_frame.specs.Blocks.{encoded}
+use Rattle.asterix_frame.specs.Offsets.{data_block}
 use Rattle.recording.specs.Raw.{TimedBlock}
 use Rattle.recording.proofs.Played.{progress_more}
 use Rattle.recording.proofs.raw.play.Goals as goal
@@ -14,9 +14,9 @@ loop-from-preserved c =
     let block = c.in-Ok.block in
     let next = c.end-from.result in
     let b : TimedBlock = record { block = data_block block; times = c.in_ok-times.times.items } in
-    let to : next ≡ from + length (spelled b.block) = omega (arith, c.end-from.ensures, found.place) in
-    let octets : drop from bytes ≡ spelled b.block ++ drop next bytes = found.octets ∙ ap (λ n. spelled b.block ++ drop n bytes) (sym c.end-from.ensures) in
-    let cut : take (next - from) (drop from bytes) ≡ spelled b.block = ap (take (next - from)) octets ∙ take_at (spelled b.block) (drop next bytes) (next - from) (omega (arith, to)) in
+    let to : next ≡ from + length (encoded b.block) = omega (arith, c.end-from.ensures, found.at_is) in
+    let octets : drop from bytes ≡ encoded b.block ++ drop next bytes = found.octets ∙ ap (λ n. encoded b.block ++ drop n bytes) (sym c.end-from.ensures) in
+    let cut : take (next - from) (drop from bytes) ≡ encoded b.block = ap (take (next - from)) octets ∙ take_at (encoded b.block) (drop next bytes) (next - from) (omega (arith, to)) in
     record {
       within = omega (arith, c.end-from.ensures, found.within);
       in_range = c.in_ok-take.ensures.in_range;

@@ -1,7 +1,7 @@
 use Rattle.std.proofs.Common.{sym, subst}
 use Rattle.std.proofs.lemmas.Result.{IfOk-weaker}
 use Rattle.recording.specs.Times.{HasTimes}
-use Rattle.asterix_frame.specs.Places.{data_block}
+use Rattle.asterix_frame.specs.Offsets.{data_block}
 use Rattle.asterix_frame.specs.Bodies.{HasRecords}
 use Rattle.recording.proofs.BlockTimes.{times_found, times_below, times_other}
 use Rattle.recording.proofs.times.times_of.Goals as goal
