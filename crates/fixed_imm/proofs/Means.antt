@@ -1,13 +1,13 @@
 -- Mixtures stay within the bounds of what they mix.
-use Rattle.std.proofs.Common.{◌≡◌, ℕ, suc, ◌+◌, ◌-◌, ◌*◌, ◌^◌, ◌≤◌, ℤ, pos, negsuc, neg_ℤ, ◌+ℤ◌, ◌-ℤ◌, ◌*ℤ◌, ◌≤ℤ◌, inl, inr, arith, refl, ap}
+use Rattle.std.proofs.Common.{◌≡◌, ℕ, suc, ◌+◌, ◌-◌, ◌*◌, ◌/◌, ◌^◌, ◌<◌, ◌≤◌, ℤ, pos, negsuc, neg_ℤ, ◌+ℤ◌, ◌-ℤ◌, ◌*ℤ◌, ◌≤ℤ◌, inl, inr, arith, refl, ap}
 use Rattle.std.specs.Prelude.{unsigned_abs}
 use Rattle.std.specs.Int.{int_div_euclid}
 use Rattle.std.proofs.lemmas.Int.{ints}
 use Rattle.std.proofs.lemmas.Nat.{mul-le}
 use Rattle.std.proofs.lemmas.Bool.{cases_lt}
-use Rattle.trk_base.specs.Numbers.{round}
-use Rattle.fixed_imm.specs.Bounds.{IsBetween}
-use Rattle.fixed_imm.specs.Mixing.{mean, covariance}
+use Rattle.trk_base.specs.Numbers.{round, IsBetween}
+use Rattle.trk_base.proofs.Sizes.{round_pos_share}
+use Rattle.fixed_imm.specs.Mixing.{share, mean, covariance}
 use Rattle.fixed_imm.proofs.Squares.{square}
 
 -- a part of n, upwards and downwards
@@ -88,3 +88,15 @@ pub variance_within : (g q0 q1 dp : ℤ) → IsBetween (pos 0) g (pos 65536) →
     → IsBetween (pos 1) (covariance g q0 q1 (dp *ℤ dp)) (pos (256000000 * 256000000 + 2 ^ 46))
 variance_within (pos k) q0 q1 dp part first second near = variance_at k q0 q1 dp (omega (arith, ints, part.to)) first second near
 variance_within (negsuc k) q0 q1 dp part first second near = absurd (omega (arith, ints, part.from))
+
+-- a share, as the code divides
+pub share_is : (a b : ℕ) → pos ((131072 * a + (a + b)) / (2 * (a + b))) ≡ share a b
+unfolding share
+share_is a b =
+    let twice : 131072 * a + (a + b) ≡ 2 * (65536 * a) + (a + b) = omega arith in
+    ap (λ n. pos (n / (2 * (a + b)))) twice
+
+pub share_size : (a b : ℕ) → 0 < a + b → (131072 * a + (a + b)) / (2 * (a + b)) ≤ 65536
+share_size a b some =
+    let twice : 131072 * a + (a + b) ≡ 2 * (65536 * a) + (a + b) = omega arith in
+    rw twice (round_pos_share (65536 * a) (a + b) 65536 some (omega arith))

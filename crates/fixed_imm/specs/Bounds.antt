@@ -1,69 +1,51 @@
 -- The bounds within which the filter keeps its numbers.
-use Rattle.std.specs.Prelude.{ℕ, ◌^◌, ◌*◌, ◌+◌, ◌-◌, ◌≤◌, ◌≡◌, ℤ, pos, neg_ℤ, ◌*ℤ◌, ◌≤ℤ◌, unsigned_abs}
-use Rattle.trk_base.specs.Numbers.{clamp, isqrt}
+use Rattle.std.specs.Prelude.{ℕ, ◌*◌, ◌+◌, ◌-◌, ◌≤◌, ◌≡◌, ℤ, pos, neg_ℤ, ◌-ℤ◌, ◌*ℤ◌, ◌≤ℤ◌, unsigned_abs}
+use Rattle.trk_base.specs.Limits.{plane_bound}
+use Rattle.trk_base.specs.Numbers.{clamp, isqrt, IsBetween}
 use Rattle.fixed_imm.specs.declared.motion.Motion.{Motion}
-use Rattle.fixed_imm.specs.declared.motion.Place.{Place}
+use Rattle.fixed_imm.specs.Constants.{least_time_step, greatest_time_step, velocity_bound, variance_bound, least_weight, greatest_weight}
 use Rattle.fixed_imm.specs.Values.{AxisState}
 
--- 4,000 km, in 1/64 m
-abbrev pub position_limit : ℤ
-position_limit = pos 256000000
+-- the number nearest to x whose size is at most b
+abbrev pub clamp_size : ℤ → ℤ → ℤ
+clamp_size x b = clamp x (neg_ℤ b) b
 
--- 1,024 m/s, in 1/1024 m/s
-abbrev pub velocity_limit : ℤ
-velocity_limit = pos 1048576
-
--- a standard deviation of 131,072 m, or of 8,192 m/s
-abbrev pub variance_limit : ℤ
-variance_limit = pos (2 ^ 46)
-
--- the nearest variance in range
+-- the variance nearest to x
 abbrev pub variance_within : ℤ → ℤ
-variance_within x = clamp x (pos 1) variance_limit
+variance_within x = clamp x (pos 1) (pos variance_bound)
 
 -- the greatest covariance of two variances
-abbrev pub covariance_limit : ℤ → ℤ → ℤ
-covariance_limit a b = pos (isqrt (unsigned_abs (a *ℤ b)))
+abbrev pub covariance_bound : ℤ → ℤ → ℤ
+covariance_bound a b = pos (isqrt (unsigned_abs (a *ℤ b)))
 
 -- a model with these values, each brought into its range
 unfoldable pub bounded : ℤ → ℤ → ℤ → ℤ → ℤ → Motion
 bounded p v p11 p12 p22 =
     let a = variance_within p11 in
     let b = variance_within p22 in
-    let w = covariance_limit a b in
     record {
-      p = clamp p (neg_ℤ position_limit) position_limit;
-      v = clamp v (neg_ℤ velocity_limit) velocity_limit;
+      p = clamp_size p (pos plane_bound);
+      v = clamp_size v (pos velocity_bound);
       p11 = a;
-      p12 = clamp p12 (neg_ℤ w) w;
+      p12 = clamp_size p12 (covariance_bound a b);
       p22 = b;
     }
 
--- weights of both models, in 1/65,536: the first is brought from 64 to 65,472, and the second is the rest
+-- weights of both models, in 1/65,536: the first is brought into its range, and the second is the rest
 unfoldable pub weights : ℤ → ℕ × ℕ
-weights x = let w = unsigned_abs (clamp x (pos 64) (pos 65472)) in (w, 65536 - w)
-
-pub record IsBetween (low x high : ℤ) : Type 0 where
-  pub from : low ≤ℤ x
-  pub to : x ≤ℤ high
+weights x = let w = unsigned_abs (clamp x (pos least_weight) (pos greatest_weight)) in (w, 65536 - w)
 
 -- the bounds of a model; the last says that the covariance matrix has no negative variance in any direction
 pub record IsBounded (m : Motion) : Type 0 where
-  pub p : unsigned_abs m.p ≤ 256000000
-  pub v : unsigned_abs m.v ≤ 1048576
-  pub p11 : IsBetween (pos 1) m.p11 variance_limit
-  pub p22 : IsBetween (pos 1) m.p22 variance_limit
+  pub p : unsigned_abs m.p ≤ plane_bound
+  pub v : unsigned_abs m.v ≤ velocity_bound
+  pub p11 : IsBetween (pos 1) m.p11 (pos variance_bound)
+  pub p22 : IsBetween (pos 1) m.p22 (pos variance_bound)
   pub p12 : unsigned_abs m.p12 * unsigned_abs m.p12 ≤ unsigned_abs m.p11 * unsigned_abs m.p22
 
--- those of them that speak of a place
-pub record IsPlace (m : Place) : Type 0 where
-  pub p : unsigned_abs m.p ≤ 256000000
-  pub v : unsigned_abs m.v ≤ 1048576
-  pub p11 : IsBetween (pos 1) m.p11 variance_limit
-
 pub record IsWeights (w : ℕ × ℕ) : Type 0 where
-  pub low : 64 ≤ w.0
-  pub high : w.0 ≤ 65472
+  pub low : least_weight ≤ w.0
+  pub high : w.0 ≤ greatest_weight
   pub sum : w.0 + w.1 ≡ 65536
 
 -- the bounds of an axis
@@ -72,16 +54,24 @@ pub record IsAxis (a : AxisState) : Type 0 where
   pub second : IsBounded a.motion.1
   pub weight : IsWeights a.weight
 
--- from half a second back to 60.5 seconds ahead, in 1/128 s
+-- a step of time that the filter takes, in 1/128 s
 pub record IsTimeStep (d : ℤ) : Type 0 where
-  pub from : neg_ℤ (pos 64) ≤ℤ d
-  pub to : d ≤ℤ pos 7744
+  pub from : least_time_step ≤ℤ d
+  pub to : d ≤ℤ greatest_time_step
+
+-- how much later a time is than another, in 1/128 s
+abbrev pub time_step : ℕ → ℕ → ℤ
+time_step earlier later = pos later -ℤ pos earlier
 
 -- a measured position, in 1/64 m
 abbrev pub IsPosition : ℤ → Type 0
-IsPosition z = unsigned_abs z ≤ 256000000
+IsPosition z = unsigned_abs z ≤ plane_bound
 
 -- the variance of a measured position, in (1/64 m)²
 pub record IsVariance (r : ℕ) : Type 0 where
   pub from : 1 ≤ r
-  pub to : r ≤ 2 ^ 46
+  pub to : r ≤ variance_bound
+
+-- the variance of the position of both models together: a variance, and at most half the greatest distance squared above it
+abbrev pub IsCombinedVariance : ℤ → Type 0
+IsCombinedVariance x = IsBetween (pos 1) x (pos (plane_bound * plane_bound + variance_bound))

@@ -4,6 +4,7 @@ use Rattle.std.specs.Prelude.{ℕ, ◌^◌, ◌*◌, ◌/◌, ◌+◌, max, ℤ,
 use Rattle.std.specs.Int.{int_min}
 use Rattle.trk_base.specs.Numbers.{round, isqrt, exp2_lin}
 use Rattle.fixed_imm.specs.declared.motion.Motion.{Motion}
+use Rattle.fixed_imm.specs.Constants.{exponent_scale, impossible_exponent}
 use Rattle.fixed_imm.specs.Bounds.{bounded, weights}
 use Rattle.fixed_imm.specs.Mixing.{share}
 
@@ -33,10 +34,10 @@ corrected m e s =
     (lowered m.p22 m.p12 m.p12 s)
 
 -- the Gaussian density of an innovation e with the variance s, but for a factor that all have:
--- e² / 2s is taken as a power of two in 1/65,536, and 47,274 is 65,536 / (2 ln 2)
+-- e^(-e² / 2s) is taken as a power of two in 1/65,536
 unfoldable pub likelihood : ℤ → ℤ → ℕ
 likelihood e s =
-    exp2_lin (unsigned_abs (int_min (round (pos 47274 *ℤ e *ℤ e) s) (pos 2031616))) * 2 ^ 32 / max (isqrt (unsigned_abs s)) 1
+    exp2_lin (unsigned_abs (int_min (round (exponent_scale *ℤ e *ℤ e) s) impossible_exponent)) * 2 ^ 32 / max (isqrt (unsigned_abs s)) 1
 
 -- the weights after likelihoods l, from the weights c before (11.6.6, step 4); those stay where no model is likely at all
 unfoldable pub posterior_weights : ℕ × ℕ → ℕ × ℕ → ℕ × ℕ

@@ -1,4 +1,5 @@
 pub mod Values
+pub mod Constants
 pub mod Bounds
 pub mod Mixing
 pub mod Prediction

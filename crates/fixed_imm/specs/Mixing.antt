@@ -3,7 +3,6 @@
 use Rattle.std.specs.Prelude.{ℕ, ◌^◌, ◌*◌, ◌+◌, ℤ, pos, ◌+ℤ◌, ◌-ℤ◌, ◌*ℤ◌}
 use Rattle.trk_base.specs.Numbers.{round}
 use Rattle.fixed_imm.specs.declared.motion.Motion.{Motion}
-use Rattle.fixed_imm.specs.declared.motion.Place.{Place}
 use Rattle.fixed_imm.specs.Bounds.{bounded}
 
 -- a part of a + b, in 1/65,536: the part that a is
@@ -31,11 +30,8 @@ mixed g a b =
     (covariance g a.p12 b.p12 (dp *ℤ dv))
     (covariance g a.p22 b.p22 (dv *ℤ dv))
 
-abbrev pub place_of : Motion → Place
-place_of m = record { p = m.p; v = m.v; p11 = m.p11 }
-
 -- position, velocity and the variance of the position of a mixture
-unfoldable pub overall : ℤ → Place → Place → ℤ × ℤ × ℤ
+unfoldable pub overall : ℤ → Motion → Motion → ℤ × ℤ × ℤ
 overall g a b =
     let dp = a.p -ℤ b.p in
     (mean g a.p b.p, mean g a.v b.v, covariance g a.p11 b.p11 (dp *ℤ dp))

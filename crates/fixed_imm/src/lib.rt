@@ -9,11 +9,17 @@
 mod aim;
 mod axis;
 mod correcting;
+mod mixed;
 mod mixing;
+mod modes;
 mod motion;
 mod predicting;
+mod rounding;
+mod steps;
 mod weighing;
 
-pub use aim::Aim;
+pub use aim::{Aim, MixedAim};
 pub use axis::Axis;
+pub use mixed::MixedAxis;
 pub use motion::Motion;
+pub use steps::{GREATEST_TIME_STEP, LEAST_TIME_STEP, one_time_step, time_step};

@@ -1,36 +1,38 @@
 // Mixtures of two models.
-ghost use Rattle.std.specs.Prelude.{◌≡◌, ◌≤◌, ◌<◌, ◌+◌, ◌*◌, ◌^◌, pos, unsigned_abs};
-ghost use Rattle.fixed_imm.specs.Bounds.{IsBetween, IsBounded, IsPlace};
-ghost use Rattle.fixed_imm.specs.Mixing.{share, mean, covariance, mixed, overall};
+ghost use Rattle.std.specs.Prelude.{◌≡◌, ◌≤◌, ◌<◌, ◌+◌, ◌^◌, pos, unsigned_abs};
+ghost use Rattle.trk_base.specs.Numbers.{IsBetween};
+ghost use Rattle.fixed_imm.specs.Bounds.{IsBounded};
+ghost use Rattle.fixed_imm.specs.Mixing.{share, mean, covariance, mixed};
 
 use crate::Motion;
-use crate::motion::{Place, bounded};
-use trk_base::round_div;
+use crate::motion::bounded;
+use crate::rounding::{round_shift, round_shift_wide};
 
-/// The part of `a + b` that `a` is, in 1/65,536.
-pub(crate) fn share(a: u128, b: u128) -> i128
+// The part of `a + b` that `a` is, in 1/65,536.
+pub(crate) fn share(a: u64, b: u64) -> i64
     requires some { 0 < a + b }
-    requires first { a < 2 ^ 80 }
-    requires second { b < 2 ^ 80 }
+    requires first { a ≤ 2 ^ 32 }
+    requires second { b ≤ 2 ^ 32 }
     ensures value { result ≡ share a b }
     ensures part { IsBetween (pos 0) result (pos 65536) }
 {
-    round_div((65_536 * a) as i128, (a + b) as i128)
+    let sum = a + b;
+    ((131_072 * a + sum) / (2 * sum)) as i64
 }
 
-/// The mean of two values, where the first has the weight `g` in 1/65,536.
-pub(crate) fn mean(g: i128, x0: i128, x1: i128) -> i128
+// The mean of two values, where the first has the weight `g` in 1/65,536.
+pub(crate) fn mean(g: i64, x0: i64, x1: i64) -> i64
     requires part { IsBetween (pos 0) g (pos 65536) }
     requires first { unsigned_abs x0 ≤ 2 ^ 28 }
     requires second { unsigned_abs x1 ≤ 2 ^ 28 }
     ensures { result ≡ mean g x0 x1 }
 {
-    x1 + round_div(g * (x0 - x1), 65_536)
+    x1 + round_shift(g * (x0 - x1), 16)
 }
 
-/// The variance or covariance of a mixture, where the first model has the weight `g` in 1/65,536:
-/// that of both models by their weights, and the spread of their means.
-pub(crate) fn covariance(g: i128, q0: i128, q1: i128, spread: i128) -> i128
+// The variance or covariance of a mixture, where the first model has the weight `g` in 1/65,536:
+// that of both models by their weights, and the spread of their means.
+pub(crate) fn covariance(g: i64, q0: i64, q1: i64, spread: i64) -> i64
     requires part { IsBetween (pos 0) g (pos 65536) }
     requires first { unsigned_abs q0 ≤ 2 ^ 46 }
     requires second { unsigned_abs q1 ≤ 2 ^ 46 }
@@ -38,42 +40,26 @@ pub(crate) fn covariance(g: i128, q0: i128, q1: i128, spread: i128) -> i128
     ensures { result ≡ covariance g q0 q1 spread }
 {
     let rest = 65_536 - g;
-    round_div(g * q0 + rest * q1, 65_536) + round_div(g * rest * spread, 1 << 32)
+    let inside = g as i128 * q0 as i128 + rest as i128 * q1 as i128;
+    let between = (g * rest) as i128 * spread as i128;
+    (round_shift_wide(inside, 16) + round_shift_wide(between, 32)) as i64
 }
 
-/// Two models mixed, where the first has the weight `g` in 1/65,536.
-pub(crate) fn mixed(g: i128, a: &Motion, b: &Motion) -> Motion
+// Two models mixed, where the first has the weight `g` in 1/65,536.
+pub(crate) fn mixed(g: i64, a: &Motion, b: &Motion) -> Motion
     requires part { IsBetween (pos 0) g (pos 65536) }
     requires first { IsBounded a.now }
     requires second { IsBounded b.now }
     ensures value { result ≡ mixed g a.now b.now }
     ensures bounds { IsBounded result }
 {
-    let dp = a.p as i128 - b.p as i128;
-    let dv = a.v as i128 - b.v as i128;
+    let dp = a.p - b.p;
+    let dv = a.v - b.v;
     bounded(
-        mean(g, a.p as i128, b.p as i128),
-        mean(g, a.v as i128, b.v as i128),
-        covariance(g, a.p11 as i128, b.p11 as i128, dp * dp),
-        covariance(g, a.p12 as i128, b.p12 as i128, dp * dv),
-        covariance(g, a.p22 as i128, b.p22 as i128, dv * dv),
-    )
-}
-
-/// Position, velocity and the variance of the position of two models together.
-pub(crate) fn overall(g: i128, a: &Place, b: &Place) -> (i64, i64, i64)
-    requires part { IsBetween (pos 0) g (pos 65536) }
-    requires first { IsPlace a.now }
-    requires second { IsPlace b.now }
-    ensures value { result ≡ overall g a.now b.now }
-    ensures position { unsigned_abs result.0 ≤ 256000000 }
-    ensures velocity { unsigned_abs result.1 ≤ 1048576 }
-    ensures variance { IsBetween (pos 1) result.2 (pos (256000000 * 256000000 + 2 ^ 46)) }
-{
-    let dp = a.p as i128 - b.p as i128;
-    (
-        mean(g, a.p as i128, b.p as i128) as i64,
-        mean(g, a.v as i128, b.v as i128) as i64,
-        covariance(g, a.p11 as i128, b.p11 as i128, dp * dp) as i64,
+        mean(g, a.p, b.p),
+        mean(g, a.v, b.v),
+        covariance(g, a.p11, b.p11, dp * dp),
+        covariance(g, a.p12, b.p12, dp * dv),
+        covariance(g, a.p22, b.p22, dv * dv),
     )
 }

@@ -2,5 +2,7 @@
 #![tactic(auto)]
 
 mod gates;
+mod laws;
 
-pub use gates::{cost_of, gate};
+pub use gates::{REACH, cost_of, gate, gate_mixed};
+pub use laws::one_reach;

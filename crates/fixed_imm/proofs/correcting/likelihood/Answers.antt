@@ -4,8 +4,9 @@ use Rattle.std.specs.Int.{int_min, w64, w128, cast_signed, cast_unsigned}
 use lib.Signed.{non_neg}
 use Rattle.std.proofs.lemmas.Int.{ints, clamps}
 use Rattle.trk_base.specs.Numbers.{round, isqrt, exp2_lin}
-use Rattle.trk_base.proofs.Sizes.{through, var, times, rounded_by, is_pos}
+use Rattle.trk_base.proofs.Sizes.{through, times, rounded_by, is_pos}
 use Rattle.fixed_imm.specs.Correction.{likelihood}
+use Rattle.fixed_imm.proofs.Narrow.{var64, times64, widened}
 use Rattle.fixed_imm.proofs.Fields.{divisor_of, positive_from_range}
 use Rattle.fixed_imm.proofs.Squares.{scaled_square, round_not_negative}
 use Rattle.fixed_imm.proofs.correcting.likelihood.Goals as goal
@@ -21,10 +22,10 @@ small x h = in_range (int_min x (pos 2031616)) (omega (arith, ints, clamps)) (om
 not_negative : (e s : ℤ) → pos 0 <ℤ s → pos 0 ≤ℤ round (pos 47274 *ℤ e *ℤ e) s
 not_negative e s some = subst (λ z. pos 0 ≤ℤ round z s) (sym (scaled_square 47274 e)) (round_not_negative (47274 * unsigned_abs e * unsigned_abs e) s some)
 
-distance_of : (c : After-min-exponent) → cast_signed w128 (cast_unsigned w128 c.round_div.result) ≡ round (pos 47274 *ℤ c.args.e *ℤ c.args.e) c.args.s
+distance_of : (c : After-min-exponent) → cast_signed w128 (cast_unsigned w128 c.round_wide.result) ≡ round (pos 47274 *ℤ c.args.e *ℤ c.args.e) c.args.s
 distance_of c =
-    let e = var c.args.e _ c.requires.innovation tt in
-    (rounded_by c.round_div.ensures (times (times is_pos e tt) e tt) (divisor_of c.requires.variance) (positive_from_range c.requires.variance) tt).same
+    let e = var64 c.args.e _ c.requires.innovation tt in
+    (rounded_by c.round_wide.ensures (times (widened (times64 (is_pos {n = 47274}) e tt) tt) (widened e tt) tt) (divisor_of c.requires.variance) (positive_from_range c.requires.variance) tt).same
 
 exponent_of : (c : After-min-exponent) → cast_signed w128 (cast_unsigned w128 c.min-exponent.result) ≡ int_min (round (pos 47274 *ℤ c.args.e *ℤ c.args.e) c.args.s) (pos 2031616)
 exponent_of c = through c.min-exponent.type_inv ∙ c.min-exponent.ensures.value ∙ (λ j. int_min (distance_of c j) (pos 2031616))

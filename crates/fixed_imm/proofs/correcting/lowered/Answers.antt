@@ -1,20 +1,37 @@
-use Rattle.std.proofs.Common.{lit<}
-use Rattle.trk_base.proofs.Sizes.{var, times, minus, rounded_by, is_sub, fits}
+use Rattle.std.proofs.Common.{◌^◌}
+use Rattle.std.proofs.lemmas.Int.{unsigned_abs-mul}
+use Rattle.trk_base.proofs.Sizes.{times, rounded_share, is_sub}
 use Rattle.fixed_imm.specs.Correction.{lowered}
+use Rattle.fixed_imm.proofs.Narrow.{var64, minus64, widened, narrowed, fits64}
 use Rattle.fixed_imm.proofs.Fields.{divisor_of, positive_from_range}
 use Rattle.fixed_imm.proofs.correcting.lowered.Goals as goal
 
+pub overflow_cast-result : goal.overflow_cast-result
+overflow_cast-result c =
+    let a = var64 c.args.a _ c.requires.first tt in
+    let b = var64 c.args.b _ c.requires.second tt in
+    let product = times (widened a tt) (widened b tt) tt in
+    let s = divisor_of c.requires.variance in
+    let quotient = rounded_share (2 ^ 52) c.round_wide.ensures product s (positive_from_range c.requires.variance) (rw (unsigned_abs-mul c.args.a c.args.b) c.requires.gain) tt in
+    fits64 quotient tt
+
 pub overflow_sub-result : goal.overflow_sub-result
 overflow_sub-result c =
-    let x = var c.args.x _ c.requires.value tt in
-    let product = times (var c.args.a _ c.requires.first tt) (var c.args.b _ c.requires.second tt) tt in
+    let x = var64 c.args.x _ c.requires.value tt in
+    let a = var64 c.args.a _ c.requires.first tt in
+    let b = var64 c.args.b _ c.requires.second tt in
+    let product = times (widened a tt) (widened b tt) tt in
     let s = divisor_of c.requires.variance in
-    fits (is_sub x (rounded_by c.round_div.ensures product s (positive_from_range c.requires.variance) tt)) (lit< tt)
+    let quotient = rounded_share (2 ^ 52) c.round_wide.ensures product s (positive_from_range c.requires.variance) (rw (unsigned_abs-mul c.args.a c.args.b) c.requires.gain) tt in
+    fits64 (is_sub x (narrowed quotient tt)) tt
 
 pub returns : goal.returns
 unfolding lowered
 returns c =
-    let x = var c.args.x _ c.requires.value tt in
-    let product = times (var c.args.a _ c.requires.first tt) (var c.args.b _ c.requires.second tt) tt in
+    let x = var64 c.args.x _ c.requires.value tt in
+    let a = var64 c.args.a _ c.requires.first tt in
+    let b = var64 c.args.b _ c.requires.second tt in
+    let product = times (widened a tt) (widened b tt) tt in
     let s = divisor_of c.requires.variance in
-    (minus x (rounded_by c.round_div.ensures product s (positive_from_range c.requires.variance) tt) tt).same
+    let quotient = rounded_share (2 ^ 52) c.round_wide.ensures product s (positive_from_range c.requires.variance) (rw (unsigned_abs-mul c.args.a c.args.b) c.requires.gain) tt in
+    (minus64 x (narrowed quotient tt) tt).same

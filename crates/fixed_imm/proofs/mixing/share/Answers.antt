@@ -1,14 +1,21 @@
-use Rattle.std.proofs.Common.{◌∙◌, ◌+◌, ◌*◌, arith}
-use Rattle.std.specs.Int.{w128}
-use Rattle.std.proofs.lemmas.Int.{to_z_pos}
-use Rattle.trk_base.specs.Numbers.{round}
-use Rattle.trk_base.proofs.Sizes.{through}
-use Rattle.fixed_imm.specs.Mixing.{share}
+use Rattle.std.proofs.Common.{◌∙◌, ◌+◌, ◌*◌, ◌/◌, arith, rules}
+use Rattle.std.specs.Int.{w64}
+use Rattle.std.proofs.lemmas.Int.{ints, to_z_pos}
+use Rattle.fixed_imm.proofs.Means.{share_is, share_size}
 use Rattle.fixed_imm.proofs.mixing.share.Goals as goal
 
+pub overflow_cast-result : goal.overflow_cast-result
+overflow_cast-result c =
+    let size = share_size c.args.a c.args.b c.requires.some in
+    search rules
+
 pub returns-clause-value : goal.returns-clause-value
-unfolding share
 returns-clause-value c =
-    let a = c.args.a in
-    let b = c.args.b in
-    through c.round_div.type_inv ∙ c.round_div.ensures ∙ (λ i. round (to_z_pos w128 (65536 * a) (omega arith) i) (to_z_pos w128 (a + b) (omega arith) i))
+    let size = share_size c.args.a c.args.b c.requires.some in
+    to_z_pos w64 _ (omega (arith, size)) ∙ share_is c.args.a c.args.b
+
+pub returns-clause-part : goal.returns-clause-part
+returns-clause-part c =
+    let size = share_size c.args.a c.args.b c.requires.some in
+    let e = to_z_pos w64 ((131072 * c.args.a + (c.args.a + c.args.b)) / (2 * (c.args.a + c.args.b))) (omega (arith, size)) in
+    rw e (record { from = omega (arith, ints, size); to = omega (arith, ints, size) })

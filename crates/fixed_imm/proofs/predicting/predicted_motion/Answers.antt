@@ -1,27 +1,30 @@
 use Rattle.std.proofs.Common.{◌∙◌, lit≤}
-use Rattle.trk_base.proofs.Sizes.{through, var, size}
+use Rattle.trk_base.proofs.Sizes.{size}
 use Rattle.fixed_imm.specs.Bounds.{bounded}
 use Rattle.fixed_imm.specs.Prediction.{predicted_p, predicted_p11, predicted_p12, predicted_p22, predicted_motion}
+use Rattle.fixed_imm.proofs.Narrow.{var64, through64}
 use Rattle.fixed_imm.proofs.Fields.{p_of, v_of, p11_of, p12_of, p22_of}
 use Rattle.fixed_imm.proofs.predicting.predicted_motion.Goals as goal
 
 pub predicted_p11-requires-clause-cross : goal.predicted_p11-requires-clause-cross
-predicted_p11-requires-clause-cross c = size (p12_of _ c.requires.bounds) (lit≤ tt)
+predicted_p11-requires-clause-cross c =
+    size (p12_of _ c.requires.bounds) (lit≤ tt)
 
 pub predicted_p12-requires-clause-cross : goal.predicted_p12-requires-clause-cross
-predicted_p12-requires-clause-cross c = size (p12_of _ c.requires.bounds) (lit≤ tt)
+predicted_p12-requires-clause-cross c =
+    size (p12_of _ c.requires.bounds) (lit≤ tt)
 
 pub returns-clause-value : goal.returns-clause-value
 unfolding predicted_motion
 returns-clause-value c =
     let m = c.requires.bounds in
-    let q = (var c.args.q _ c.requires.noise tt).same in
-    let d = (var c.args.d _ c.requires.time tt).same in
+    let q = (var64 c.args.q _ c.requires.noise tt).same in
+    let d = (var64 c.args.d _ c.requires.time tt).same in
     let p11 = (p11_of _ m).same in
     let p12 = (p12_of _ m).same in
     let p22 = (p22_of _ m).same in
-    let p_is = through c.predicted_p.type_inv ∙ c.predicted_p.ensures ∙ (λ j. predicted_p (d j) ((p_of _ m).same j) ((v_of _ m).same j)) in
-    let p11_is = through c.predicted_p11.type_inv ∙ c.predicted_p11.ensures ∙ (λ j. predicted_p11 (q j) (d j) (p11 j) (p12 j) (p22 j)) in
-    let p12_is = through c.predicted_p12.type_inv ∙ c.predicted_p12.ensures ∙ (λ j. predicted_p12 (q j) (d j) (p12 j) (p22 j)) in
-    let p22_is = through c.predicted_p22.type_inv ∙ c.predicted_p22.ensures ∙ (λ j. predicted_p22 (q j) (d j) (p22 j)) in
+    let p_is = through64 c.predicted_p.type_inv ∙ c.predicted_p.ensures ∙ (λ j. predicted_p (d j) ((p_of _ m).same j) ((v_of _ m).same j)) in
+    let p11_is = through64 c.predicted_p11.type_inv ∙ c.predicted_p11.ensures ∙ (λ j. predicted_p11 (q j) (d j) (p11 j) (p12 j) (p22 j)) in
+    let p12_is = through64 c.predicted_p12.type_inv ∙ c.predicted_p12.ensures ∙ (λ j. predicted_p12 (q j) (d j) (p12 j) (p22 j)) in
+    let p22_is = through64 c.predicted_p22.type_inv ∙ c.predicted_p22.ensures ∙ (λ j. predicted_p22 (q j) (d j) (p22 j)) in
     c.bounded.ensures.value ∙ (λ j. bounded (p_is j) ((v_of _ m).same j) (p11_is j) (p12_is j) (p22_is j))

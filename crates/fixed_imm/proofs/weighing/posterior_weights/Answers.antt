@@ -1,9 +1,9 @@
 use Rattle.std.proofs.Common.{◌≡◌, ◌∙◌, ℕ, ◌+◌, ◌*◌, sym, eqb}
 use Rattle.std.proofs.lemmas.Bool.{cond_both, eqb-true, eqb-false}
-use Rattle.trk_base.proofs.Sizes.{through}
 use Rattle.fixed_imm.specs.Bounds.{weights}
 use Rattle.fixed_imm.specs.Mixing.{share}
 use Rattle.fixed_imm.specs.Correction.{posterior_weights}
+use Rattle.fixed_imm.proofs.Narrow.{through64}
 use Rattle.fixed_imm.proofs.weighing.posterior_weights.Goals as goal
 
 -- the weights where no model is likely, and where one is
@@ -27,5 +27,5 @@ returns-then-n0-n1-eq0-clause-value c =
 
 pub returns-clause-value : goal.returns-clause-value
 returns-clause-value c =
-    let part = through c.share.type_inv ∙ c.share.ensures.value ∙ (λ j. share (c.from.ensures j * c.from-2.ensures j) (c.from-3.ensures j * c.from-4.ensures j)) in
+    let part = through64 c.posterior_share.type_inv ∙ c.posterior_share.ensures ∙ (λ j. share (c.from.ensures j * c.from-2.ensures j) (c.from-3.ensures j * c.from-4.ensures j)) in
     c.weights.ensures.value ∙ (λ j. weights (part j)) ∙ changed c.args.c c.args.l (λ e. c.if-n0-n1-eq0.false ((λ j. c.from.ensures j * c.from-2.ensures j + c.from-3.ensures j * c.from-4.ensures j) ∙ e))

@@ -1,34 +1,43 @@
-use Rattle.std.proofs.Common.{◌∙◌, sym, subst, arith, ◌≡◌, ◌≤◌, ◌^◌, ℤ, to_z, of_z}
-use Rattle.std.specs.Int.{w64, w32}
+use Rattle.std.proofs.Common.{◌∙◌, ap, arith, sym}
 use Rattle.std.specs.Prelude.{unsigned_abs}
-use Rattle.std.proofs.lemmas.Int.{ints, to_z-of_z, fits_signed_from_abs}
-use Rattle.fixed_imm.specs.Bounds.{IsTimeStep}
-use Rattle.gating.specs.Gating.{innovation, innovation_variance}
-use Rattle.gating.proofs.Costs.{of_another, of_this}
+use Rattle.std.specs.Int.{w32}
+use Rattle.std.proofs.lemmas.Int.{to_z-of_z}
+use Rattle.fixed_imm.specs.Values.{AxisState}
+use Rattle.fixed_imm.specs.Aims.{AimState}
+use Rattle.fixed_imm.specs.Bounds.{time_step}
+use Rattle.fixed_imm.specs.Filter.{mixed_axis}
+use Rattle.gating.specs.Gating.{gate}
+use Rattle.gating.specs.MixedGating.{mixed_innovation, mixed_cost}
+use Rattle.gating.proofs.Costs.{of_another, of_this, x_too_far, as_read, innovation_read}
 use Rattle.gating.proofs.gates.gate.Goals as goal
 
 pub returns-then-is_another : goal.returns-then-is_another
-returns-then-is_another c = of_another c.args.aim.now c.args.plot.now (sym c.if-is_another.ensures)
+returns-then-is_another c =
+    let p = c.args.plot.now in
+    let a : AimState = record { x = c.aim.inside.x; y = c.aim.inside.y; time = c.aim.inside.time; address = c.aim.inside.address; code = c.aim.inside.code } in
+    of_another a p (sym c.if-is_another.ensures) ∙ ap (λ (b : AimState). gate b p) c.aim.view_is
 
-as_is : (x : ℤ) → unsigned_abs x ≤ 2 ^ 31 → to_z w64 (of_z w64 x) ≡ x
-as_is x h = to_z-of_z w64 x (fits_signed_from_abs w64 x (omega (arith, h)))
-
-step_as_is : (d : ℤ) → IsTimeStep d → to_z w32 (of_z w32 d) ≡ d
-step_as_is d h = to_z-of_z w32 d (fits_signed_from_abs w32 d (omega (arith, ints, h.from, h.to)))
+pub returns-then-unsigned_abs-gt-REACH : goal.returns-then-unsigned_abs-gt-REACH
+returns-then-unsigned_abs-gt-REACH c =
+    let p = c.args.plot.now in
+    let seen = c.plot.view_is in
+    let a : AimState = record { x = c.aim.inside.x; y = c.aim.inside.y; time = c.aim.inside.time; address = c.aim.inside.address; code = c.aim.inside.code } in
+    let d = to_z-of_z w32 c.time_step-d.result (record { sfits = c.time_step-d.type_inv }) ∙ c.time_step-d.ensures ∙ (λ j. time_step a.time (seen j).key.time) in
+    let time = time_step a.time p.key.time in
+    let e =
+    innovation_read c.mixed-x.result _ _ time _ p.x c.innovation.ensures.value d (as_read c.plot.inside.x (omega (arith, c.plot.invariant.x)) ∙ (λ j. (seen j).x)) c.innovation.ensures.near
+    ∙ ap (λ (x : AxisState). mixed_innovation x time p.x) c.mixed-x.ensures in
+    x_too_far (mixed_axis a.x) (mixed_axis a.y) time p (omega (arith, c.if-unsigned_abs-gt-REACH.true, c.unsigned_abs.ensures.value ∙ ap unsigned_abs e))
+    ∙ of_this a p (sym c.if-is_another.ensures)
+    ∙ ap (λ (b : AimState). gate b p) c.aim.view_is
 
 pub returns : goal.returns
 returns c =
-    let plot = c.args.plot.now in
-    let d = step_as_is c.time_step-d.result (subst IsTimeStep (sym c.time_step-d.ensures) c.requires) in
+    let p = c.args.plot.now in
     let seen = c.plot.view_is in
-    let x = as_is c.plot.inside.x (omega (arith, c.plot.invariant.x)) ∙ (λ j. (seen j).x) in
-    let y = as_is c.plot.inside.y (omega (arith, c.plot.invariant.y)) ∙ (λ j. (seen j).y) in
-    let ex = c.innovation-ex.ensures in
-    let ey = c.innovation-ey.ensures in
-    let view = c.aim.view_is in
-    of_this c.args.aim.now plot c.time_step-d.result _ _ c.innovation-ex.result.1 c.innovation-ey.result.1 c.cost_of.result (sym c.if-is_another.ensures) c.time_step-d.ensures
-    (as_is c.innovation-ex.result.0 ex.near ∙ ex.innovation ∙ (λ j. innovation (view j).x (d j) (x j)))
-    (ex.variance ∙ (λ j. innovation_variance (view j).x (d j) (seen j).rx))
-    (as_is c.innovation-ey.result.0 ey.near ∙ ey.innovation ∙ (λ j. innovation (view j).y (d j) (y j)))
-    (ey.variance ∙ (λ j. innovation_variance (view j).y (d j) (seen j).ry))
-    c.cost_of.ensures
+    let a : AimState = record { x = c.aim.inside.x; y = c.aim.inside.y; time = c.aim.inside.time; address = c.aim.inside.address; code = c.aim.inside.code } in
+    let d = to_z-of_z w32 c.time_step-d.result (record { sfits = c.time_step-d.type_inv }) ∙ c.time_step-d.ensures ∙ (λ j. time_step a.time (seen j).key.time) in
+    c.mixed_cost.ensures
+    ∙ (λ j. mixed_cost (c.mixed-x.ensures j) (c.mixed.ensures j) (d j) p)
+    ∙ of_this a p (sym c.if-is_another.ensures)
+    ∙ ap (λ (b : AimState). gate b p) c.aim.view_is
