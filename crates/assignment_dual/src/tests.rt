@@ -6,7 +6,7 @@ use rand_core::utils::NextWord;
 use rand_pcg::Pcg32;
 use std::alloc::Global;
 use std::test::Fail;
-use trk_base::{NoMemory, Sequence};
+use trk_base::{NoMemory, Sequence, TryCopy};
 
 /// A problem without edges.
 fn bare(alloc: Global, plots: u32, tracks: u32) -> Costs
@@ -68,6 +68,24 @@ fn needs_no_plots_and_no_edges(rt: HostRuntime) -> Result<(), Fail> {
     let alone = solved(rt.alloc(), &bare(rt.alloc(), 2, 1))?;
     assert_eq!(rt; alone.pairing.as_slice(), [None, None].as_slice());
     assert_eq!(rt; alone.cost, 2 * 4097);
+    Ok(())
+}
+
+#[test]
+fn pairs_one_plot(rt: HostRuntime) -> Result<(), Fail> {
+    let mut costs = bare(rt.alloc(), 1, 4);
+    for edge in [(0, 0, 5), (0, 1, 3), (0, 2, 3)] {
+        costs = with_edge(costs, edge).map_err(|_| "no memory")?;
+    }
+    let copy = costs.copy(rt.alloc()).map_err(|_| "no memory")?;
+    let answer = solved(rt.alloc(), &copy)?;
+    assert_eq!(rt; answer.pairing.as_slice(), [Some(1)].as_slice());
+    assert_eq!(rt; answer.u.as_slice(), [3].as_slice());
+    assert_eq!(rt; answer.v.as_slice(), [0, 0, 0, 0].as_slice());
+    assert_eq!(rt; answer.cost, 3);
+    let alone = solved(rt.alloc(), &bare(rt.alloc(), 1, 1))?;
+    assert_eq!(rt; alone.pairing.as_slice(), [None].as_slice());
+    assert_eq!(rt; alone.u.as_slice(), [4097].as_slice());
     Ok(())
 }
 

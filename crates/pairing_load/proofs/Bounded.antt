@@ -1,4 +1,4 @@
--- Prices that prove a pairing of three plots and three tracks are small.
+-- PriceLoad that prove a pairing of three plots and three tracks are small.
 use Rattle.std.proofs.Common.{◌≡◌, ◌∙◌, ap, ℕ, List, [], ◌∷◌, Option, length, arith, ℤ, pos, negsuc, ◌+ℤ◌, ◌≤ℤ◌}
 use Rattle.std.specs.Prelude.{FitsSigned}
 use Rattle.std.specs.Int.{w64}

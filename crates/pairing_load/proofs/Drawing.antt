@@ -1,11 +1,11 @@
--- Generators behind the costs of edges.
+-- Generators after the costs of edges.
 use Rattle.std.proofs.Common.{◌≡◌, ◌∙◌, ap, refl, ℕ, zero, suc, ◌+◌, ◌≤◌, arith}
 use Rattle.std.proofs.lemmas.Nat.{mod_below}
 use Rattle.rand_pcg.specs.Lcg.{Lcg, state_after, next_state}
 use Rattle.rand_pcg.specs.Pcg.{pcg32, multiplier_64}
 use Rattle.pairing_load.specs.declared.problems.EdgeCosts.{EdgeCosts}
 use Rattle.pairing_load.specs.declared.problems.EdgeCosts.TheVariants.{Random, Equal}
-use Rattle.pairing_load.specs.Problems.{behind, next_cost}
+use Rattle.pairing_load.specs.Problems.{after, next_cost}
 
 none_first : (n : ℕ) → n ≡ 0 + n
 none_first n = omega arith
@@ -19,15 +19,15 @@ unfolding state_after
 states increment zero n state = ap (λ (k : ℕ). state_after 64 multiplier_64 increment k state) (none_first n)
 states increment (suc m) n state = states increment m n (next_state 64 multiplier_64 increment state) ∙ ap (λ (k : ℕ). state_after 64 multiplier_64 increment k state) (one_first m n)
 
-pub behind_behind : (costs : EdgeCosts) (m n : ℕ) (g : Lcg) → behind costs n (behind costs m g) ≡ behind costs (m + n) g
-unfolding behind
-behind_behind Random m n g = ap (λ (s : ℕ). record g { state = s }) (states g.increment m n g.state)
-behind_behind Equal m n g = refl
+pub after_after : (costs : EdgeCosts) (m n : ℕ) (g : Lcg) → after costs n (after costs m g) ≡ after costs (m + n) g
+unfolding after
+after_after Random m n g = ap (λ (s : ℕ). record g { state = s }) (states g.increment m n g.state)
+after_after Equal m n g = refl
 
-pub behind_none : (costs : EdgeCosts) (g : Lcg) → behind costs 0 g ≡ g
-unfolding behind state_after
-behind_none Random g = refl
-behind_none Equal g = refl
+pub after_none : (costs : EdgeCosts) (g : Lcg) → after costs 0 g ≡ g
+unfolding after state_after
+after_none Random g = refl
+after_none Equal g = refl
 
 pub next_cost_small : (costs : EdgeCosts) (g : Lcg) → next_cost costs g ≤ 4096
 unfolding next_cost

@@ -8,8 +8,10 @@ use Rattle.std.proofs.lemmas.Grind.{flat_map-append}
 use Rattle.std.proofs.lemmas.List.{get_or_append_left, get_or_push, take_at, drop_at}
 use Rattle.std.proofs.lemmas.List.Elements.{All-push}
 use Rattle.io_traits.specs.Host.{HostState}
+use Rattle.io_traits.specs.Touching.{Touches}
 use Rattle.io_traits.specs.declared.host.Place.{Place}
 use Rattle.io_traits.specs.declared.host.Place.TheVariants as places
+use Rattle.io_traits.proofs.Touching.{Touches_refl, Touches_trans, widened}
 use Rattle.io_traits.proofs.Known.{Appends_nothing, Appends_trans}
 use Rattle.rand_pcg.specs.Lcg.{Lcg}
 use Rattle.price_form.specs.declared.certs.PriceRecord.{PriceRecord}
@@ -17,11 +19,11 @@ use Rattle.price_form.specs.declared.certs.PriceRecord.TheVariants.{Edition, Cer
 use Rattle.price_form.specs.Files.{IsRecord, StandFrom, StandsAt, magic}
 use Rattle.price_form.specs.Encoding.{price_record_octets}
 use Rattle.pairing_load.specs.declared.problems.EdgeCosts.TheVariants.{Random}
-use Rattle.pairing_load.specs.Places.{Got, GotFront}
-use Rattle.pairing_load.specs.Problems.{behind, generator_of}
+use Rattle.io_traits.specs.Places.{Got, GotPrefix}
+use Rattle.pairing_load.specs.Problems.{after, generator_of}
 use Rattle.pairing_load.specs.Certificates.{IsLoadRecord}
-use Rattle.pairing_load.specs.PriceFiles.{FileWritten, FrontWritten, IsLoadFile, RecordMade, generator_at}
-use Rattle.pairing_load.proofs.Drawing.{behind_behind, behind_none}
+use Rattle.pairing_load.specs.PriceFiles.{FileWritten, PrefixWritten, IsLoadFile, RecordMade, generator_at}
+use Rattle.pairing_load.proofs.Drawing.{after_after, after_none}
 
 stand_push : (p : ℕ) (rs : List PriceRecord) (r : PriceRecord) → StandFrom p rs → StandsAt (p + length (flat_map price_record_octets rs)) r → StandFrom p (rs ++ r ∷ [])
 stand_push p [] r h k =
@@ -73,20 +75,20 @@ file_more seed n bytes octets h made =
       ];
     }
 
--- all is a front
-pub got_front : (place : Place) (old new : HostState) (out : List ℕ) → Got place old new out → GotFront place old new out
-got_front place old new out got =
+-- all is a prefix
+pub got_prefix : (place : Place) (old new : HostState) (out : List ℕ) → Got place old new out → GotPrefix place old new out
+got_prefix place old new out got =
     let all : take (length out) out ≡ out = ap (take (length out)) (sym (append-nil out)) ∙ take_at out [] (length out) refl in
     (length out, omega arith, subst (λ (t : List ℕ). Appends (old.got place) (new.got place) t) (sym all) got)
 
--- octets, and a front of a piece behind them
-pub front_more : (place : Place) (old mid new : HostState) (out piece : List ℕ) → Got place old mid out → GotFront place mid new piece → GotFront place old new (out ++ piece)
-front_more place old mid new out piece got part =
+-- octets, and a prefix of a piece after them
+pub prefix_more : (place : Place) (old mid new : HostState) (out piece : List ℕ) → Got place old mid out → GotPrefix place mid new piece → GotPrefix place old new (out ++ piece)
+prefix_more place old mid new out piece got part =
     let n = part.0 in
     let first : take (length out) (out ++ piece) ≡ out = take_at out piece (length out) refl in
-    let behind' : drop (length out) (out ++ piece) ≡ piece = drop_at out piece (length out) refl in
-    let front : take (length out + n) (out ++ piece) ≡ out ++ take n piece = take-add (length out) n (out ++ piece) ∙ (λ i. first i ++ take n (behind' i)) in
-    (length out + n, omega (arith, length-append out piece, part.1), subst (λ (t : List ℕ). Appends (old.got place) (new.got place) t) (sym front) (Appends_trans (old.got place) (mid.got place) (new.got place) out (take n piece) got part.2))
+    let after' : drop (length out) (out ++ piece) ≡ piece = drop_at out piece (length out) refl in
+    let prefix : take (length out + n) (out ++ piece) ≡ out ++ take n piece = take-add (length out) n (out ++ piece) ∙ (λ i. first i ++ take n (after' i)) in
+    (length out + n, omega (arith, length-append out piece, part.1), subst (λ (t : List ℕ). Appends (old.got place) (new.got place) t) (sym prefix) (Appends_trans (old.got place) (mid.got place) (new.got place) out (take n piece) got part.2))
 
 -- how far the file was written
 pub record Progress (seed n : ℕ) (generator : Lcg) (old new : HostState) : Type 0 where
@@ -95,7 +97,7 @@ pub record Progress (seed n : ℕ) (generator : Lcg) (old new : HostState) : Typ
 
 pub progress_none : (seed : ℕ) (generator : Lcg) (old new : HostState) → generator ≡ generator_of seed → Got places.Output old new head → Progress seed 0 generator old new
 progress_none seed generator old new drawn got = record {
-  drawn = drawn ∙ sym (behind_none Random (generator_of seed));
+  drawn = drawn ∙ sym (after_none Random (generator_of seed));
   written = record { bytes = head; file = file_none seed; got = got };
 }
 
@@ -105,9 +107,9 @@ made_at n {g} {h} {octets} e made = subst (λ (k : Lcg). RecordMade n k octets) 
 next_place : (n : ℕ) → n * 9 + 9 ≡ (n + 1) * 9
 next_place n = omega arith
 
-pub progress_more : (seed n : ℕ) (generator generator' : Lcg) (octets : List ℕ) (old mid new : HostState) → Progress seed n generator old mid → RecordMade n generator octets → generator' ≡ behind Random 9 generator → Got places.Output mid new octets → Progress seed (n + 1) generator' old new
+pub progress_more : (seed n : ℕ) (generator generator' : Lcg) (octets : List ℕ) (old mid new : HostState) → Progress seed n generator old mid → RecordMade n generator octets → generator' ≡ after Random 9 generator → Got places.Output mid new octets → Progress seed (n + 1) generator' old new
 progress_more seed n generator generator' octets old mid new h made drawn got = record {
-  drawn = drawn ∙ ap (behind Random 9) h.drawn ∙ behind_behind Random (n * 9) 9 (generator_of seed) ∙ ap (λ (k : ℕ). behind Random k (generator_of seed)) (next_place n);
+  drawn = drawn ∙ ap (after Random 9) h.drawn ∙ after_after Random (n * 9) 9 (generator_of seed) ∙ ap (λ (k : ℕ). after Random k (generator_of seed)) (next_place n);
   written = record {
     bytes = h.written.bytes ++ octets;
     file = file_more seed n h.written.bytes octets h.written.file (made_at n h.drawn made);
@@ -115,27 +117,27 @@ progress_more seed n generator generator' octets old mid new h made drawn got = 
   };
 }
 
-pub front_none : (seed count : ℕ) (old new : HostState) → GotFront places.Output old new head → FrontWritten seed count old new
-front_none seed count old new got = record { made = 0; within = omega arith; bytes = head; file = file_none seed; got = got }
+pub prefix_none : (seed count : ℕ) (old new : HostState) → GotPrefix places.Output old new head → PrefixWritten seed count old new
+prefix_none seed count old new got = record { made = 0; within = omega arith; bytes = head; file = file_none seed; got = got }
 
-pub front_nothing : (seed count : ℕ) (old new : HostState) → new.got places.Output ≡ old.got places.Output → FrontWritten seed count old new
-front_nothing seed count old new same = front_none seed count old new (0, omega arith, subst (λ (o : Option (List ℕ)). Appends (old.got places.Output) o []) (sym same) (Appends_nothing (old.got places.Output)))
+pub prefix_nothing : (seed count : ℕ) (old new : HostState) → new.got places.Output ≡ old.got places.Output → PrefixWritten seed count old new
+prefix_nothing seed count old new same = prefix_none seed count old new (0, omega arith, subst (λ (o : Option (List ℕ)). Appends (old.got places.Output) o []) (sym same) (Appends_nothing (old.got places.Output)))
 
-pub front_here : (seed n count : ℕ) (old new : HostState) → n ≤ count → FileWritten seed n old new → FrontWritten seed count old new
-front_here seed n count old new le h = record { made = n; within = le; bytes = h.bytes; file = h.file; got = got_front places.Output old new h.bytes h.got }
+pub prefix_here : (seed n count : ℕ) (old new : HostState) → n ≤ count → FileWritten seed n old new → PrefixWritten seed count old new
+prefix_here seed n count old new le h = record { made = n; within = le; bytes = h.bytes; file = h.file; got = got_prefix places.Output old new h.bytes h.got }
 
-pub front_broken : (seed n count : ℕ) (generator : Lcg) (octets : List ℕ) (old mid new : HostState) → n < count → Progress seed n generator old mid → RecordMade n generator octets → GotFront places.Output mid new octets → FrontWritten seed count old new
-front_broken seed n count generator octets old mid new lt h made got = record {
+pub prefix_broken : (seed n count : ℕ) (generator : Lcg) (octets : List ℕ) (old mid new : HostState) → n < count → Progress seed n generator old mid → RecordMade n generator octets → GotPrefix places.Output mid new octets → PrefixWritten seed count old new
+prefix_broken seed n count generator octets old mid new lt h made got = record {
   made = n + 1;
   within = omega (arith, lt);
   bytes = h.written.bytes ++ octets;
   file = file_more seed n h.written.bytes octets h.written.file (made_at n h.drawn made);
-  got = front_more places.Output old mid new h.written.bytes octets h.written.got got;
+  got = prefix_more places.Output old mid new h.written.bytes octets h.written.got got;
 }
 
 -- what Output got before was the same
-pub front_moved : (seed count : ℕ) (old mid new : HostState) → mid.got places.Output ≡ old.got places.Output → FrontWritten seed count mid new → FrontWritten seed count old new
-front_moved seed count old mid new e h = record {
+pub prefix_moved : (seed count : ℕ) (old mid new : HostState) → mid.got places.Output ≡ old.got places.Output → PrefixWritten seed count mid new → PrefixWritten seed count old new
+prefix_moved seed count old mid new e h = record {
   made = h.made;
   within = h.within;
   bytes = h.bytes;
@@ -149,3 +151,16 @@ written_moved seed count old mid new e h = record {
   file = h.file;
   got = subst (λ (o : Option (List ℕ)). Appends o (new.got places.Output) h.bytes) e h.got;
 }
+
+-- bound, and then written
+pub bound_written : (a b c : HostState) → Touches (places.Output ∷ []) [] [] a b → Touches [] [] (places.Output ∷ []) b c → Touches (places.Output ∷ []) [] (places.Output ∷ []) a c
+bound_written a b c h k =
+    Touches_trans (places.Output ∷ []) [] (places.Output ∷ []) a b c
+    (widened (places.Output ∷ []) [] [] (places.Output ∷ []) [] (places.Output ∷ []) a b refl refl refl h)
+    (widened [] [] (places.Output ∷ []) (places.Output ∷ []) [] (places.Output ∷ []) b c refl refl refl k)
+
+pub bound_only : (a b : HostState) → Touches (places.Output ∷ []) [] [] a b → Touches (places.Output ∷ []) [] (places.Output ∷ []) a b
+bound_only a b h = widened (places.Output ∷ []) [] [] (places.Output ∷ []) [] (places.Output ∷ []) a b refl refl refl h
+
+pub bound_none : (a : HostState) → Touches (places.Output ∷ []) [] (places.Output ∷ []) a a
+bound_none a = Touches_refl (places.Output ∷ []) [] (places.Output ∷ []) a

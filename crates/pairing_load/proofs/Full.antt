@@ -7,7 +7,7 @@ use Rattle.std.proofs.lemmas.Nat.{div-add-mod', div_below, le-div, mod_below}
 use Rattle.rand_pcg.specs.Lcg.{Lcg}
 use Rattle.assignment_dual.specs.Problems.{Edge, EdgeBefore, IsProblem}
 use Rattle.pairing_load.specs.declared.problems.EdgeCosts.{EdgeCosts}
-use Rattle.pairing_load.specs.Problems.{behind, full_edge, full_problem, next_cost}
+use Rattle.pairing_load.specs.Problems.{after, full_edge, full_problem, next_cost}
 use Rattle.pairing_load.proofs.Drawing.{next_cost_small}
 
 in_order : (x y r t i j : ℕ) → x + r ≡ i → y + t ≡ j → x ≡ y → i < j → r < t
@@ -41,14 +41,14 @@ full_is costs size g some =
           subst (λ (e : Edge). EdgeBefore e (get_or edges j (0, 0, 0))) (sym here) (subst (λ (e : Edge). EdgeBefore (full_edge costs size g i) e) (sym there) (rising_edge costs size g some i j lt));
       plots = λ k d lt. subst (λ (e : Edge). e.0 < size) (sym (edge_here costs size g n k d (omega (arith, lt, long)))) (div_below k size size (omega arith) (omega (arith, lt, long)));
       tracks = λ k d lt. subst (λ (e : Edge). e.1 < size) (sym (edge_here costs size g n k d (omega (arith, lt, long)))) (mod_below k size (omega arith));
-      costs = λ k d lt. subst (λ (e : Edge). e.2 ≤ 4096) (sym (edge_here costs size g n k d (omega (arith, lt, long)))) (next_cost_small costs (behind costs k g));
+      costs = λ k d lt. subst (λ (e : Edge). e.2 ≤ 4096) (sym (edge_here costs size g n k d (omega (arith, lt, long)))) (next_cost_small costs (after costs k g));
     }
 
 -- one edge more
-pub edges_more : (costs : EdgeCosts) (size : ℕ) (g : Lcg) (n : ℕ) {now after : List Edge} {generator : Lcg} {cost : ℕ} → now ≡ map (full_edge costs size g) (range_with_len 0 n) → generator ≡ behind costs n g → cost ≡ next_cost costs generator → after ≡ now ++ (n / size, n % size, cost) ∷ []
+pub edges_more : (costs : EdgeCosts) (size : ℕ) (g : Lcg) (n : ℕ) {now after : List Edge} {generator : Lcg} {cost : ℕ} → now ≡ map (full_edge costs size g) (range_with_len 0 n) → generator ≡ after costs n g → cost ≡ next_cost costs generator → after ≡ now ++ (n / size, n % size, cost) ∷ []
     → after ≡ map (full_edge costs size g) (range_with_len 0 (n + 1))
 edges_more costs size g n {now} {after} {generator} {cost} e drawn is push =
-    let c : cost ≡ next_cost costs (behind costs n g) = is ∙ ap (next_cost costs) drawn in
+    let c : cost ≡ next_cost costs (after costs n g) = is ∙ ap (next_cost costs) drawn in
     push ∙ (λ j. e j ++ (n / size, n % size, c j) ∷ []) ∙ sym (map-range_with_len_more (full_edge costs size g) 0 n n (omega arith))
 
 -- a problem with just these edges

@@ -8,9 +8,9 @@ use Rattle.rand_pcg.specs.Lcg.{Lcg}
 use Rattle.assignment_dual.specs.Pairings.{Row, AllGate, Once, IsLeast, cost}
 use Rattle.assignment_dual.specs.Problems.{Problem, row_of, rows_of}
 use Rattle.pairing_load.specs.declared.problems.EdgeCosts.{EdgeCosts}
-use Rattle.pairing_load.specs.Problems.{behind, full_problem, generator_of, problem}
-use Rattle.pairing_load.proofs.Drawing.{behind_behind}
-use Rattle.pairing_load.specs.Totals.{IsLeastCost, IsTotal}
+use Rattle.pairing_load.specs.Problems.{after, full_problem, generator_of, problem}
+use Rattle.pairing_load.proofs.Drawing.{after_after}
+use Rattle.pairing_load.specs.Totals.{IsLeastCost, IsCostSum}
 
 -- no plot gets a track
 abbrev nobody : List Row → List (Option ℕ)
@@ -44,11 +44,11 @@ full_size costs size g = length-map-range_with_len (row_of (full_problem costs s
 pub least_small : (costs : EdgeCosts) (size : ℕ) (g : Lcg) (p : Problem) (xs : List (Option ℕ)) → size ≤ 1000 → p ≡ full_problem costs size g → IsLeast (rows_of p) xs → cost (rows_of p) xs ≤ 4097 * 1000
 least_small costs size g p xs few e h = omega (arith, few, least_within (rows_of p) xs h, ap (λ (q : Problem). length (rows_of q)) e, full_size costs size g)
 
-pub total_none : (costs : EdgeCosts) (size seed : ℕ) → IsTotal costs size seed 0 0
+pub total_none : (costs : EdgeCosts) (size seed : ℕ) → IsCostSum costs size seed 0 0
 total_none costs size seed = record { each = []; count_is = refl; least = λ k lt. absurd (omega (arith, lt)); total_is = refl }
 
 -- one problem more
-pub total_more : (costs : EdgeCosts) (size seed n total c : ℕ) → IsTotal costs size seed n total → IsLeastCost (problem costs size seed n) c → IsTotal costs size seed (n + 1) (total + c)
+pub total_more : (costs : EdgeCosts) (size seed n total c : ℕ) → IsCostSum costs size seed n total → IsLeastCost (problem costs size seed n) c → IsCostSum costs size seed (n + 1) (total + c)
 total_more costs size seed n total c h least =
     let here : get_or (h.each ++ c ∷ []) n 0 ≡ c = get_or_push h.each c 0 n h.count_is in
     record {
@@ -66,13 +66,13 @@ total_more costs size seed n total c h least =
 pub least_of : (costs : EdgeCosts) (size : ℕ) (g : Lcg) (p : Problem) (xs : List (Option ℕ)) (c : ℕ) → p ≡ full_problem costs size g → IsLeast (rows_of p) xs → c ≡ cost (rows_of p) xs → IsLeastCost (full_problem costs size g) c
 least_of costs size g p xs c e least worth = subst (λ (q : Problem). IsLeastCost q c) e (record { pairing = xs; least = least; worth = worth })
 
--- the generator behind one problem more
+-- the generator after one problem more
 next_row : (n s : ℕ) → n * s + s ≡ (n + 1) * s
 next_row n s = sym (add-mul n 1 s ∙ ap (λ (t : ℕ). n * s + t) (one-mul s))
 
-pub behind_more : (costs : EdgeCosts) (size seed n : ℕ) {generator generator' : Lcg} → generator ≡ behind costs (n * (size * size)) (generator_of seed) → generator' ≡ behind costs (size * size) generator → generator' ≡ behind costs ((n + 1) * (size * size)) (generator_of seed)
-behind_more costs size seed n {generator} {generator'} h e =
-    e ∙ ap (behind costs (size * size)) h ∙ behind_behind costs (n * (size * size)) (size * size) (generator_of seed) ∙ ap (λ (k : ℕ). behind costs k (generator_of seed)) (next_row n (size * size))
+pub after_more : (costs : EdgeCosts) (size seed n : ℕ) {generator generator' : Lcg} → generator ≡ after costs (n * (size * size)) (generator_of seed) → generator' ≡ after costs (size * size) generator → generator' ≡ after costs ((n + 1) * (size * size)) (generator_of seed)
+after_more costs size seed n {generator} {generator'} h e =
+    e ∙ ap (after costs (size * size)) h ∙ after_after costs (n * (size * size)) (size * size) (generator_of seed) ∙ ap (λ (k : ℕ). after costs k (generator_of seed)) (next_row n (size * size))
 
-pub least_at : (costs : EdgeCosts) (size seed n c : ℕ) {generator : Lcg} → generator ≡ behind costs (n * (size * size)) (generator_of seed) → IsLeastCost (full_problem costs size generator) c → IsLeastCost (problem costs size seed n) c
+pub least_at : (costs : EdgeCosts) (size seed n c : ℕ) {generator : Lcg} → generator ≡ after costs (n * (size * size)) (generator_of seed) → IsLeastCost (full_problem costs size generator) c → IsLeastCost (problem costs size seed n) c
 least_at costs size seed n c {generator} e h = subst (λ (g : Lcg). IsLeastCost (full_problem costs size g) c) e h

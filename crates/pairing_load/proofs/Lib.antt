@@ -2,7 +2,7 @@ pub mod Drawing
 pub mod Full
 pub mod Least
 pub mod Filing
-pub mod Spelled
+pub mod Numerals
 pub mod Certs
 pub mod Bounded
 pub mod Loads

@@ -3,10 +3,10 @@ use Rattle.std.proofs.Common.{◌≡◌, ◌∙◌, ap, sym, refl, ℕ, List, []
 use Rattle.std.specs.Prelude.{codes}
 use Rattle.pairing_load.specs.declared.problems.EdgeCosts.{EdgeCosts}
 use Rattle.pairing_load.specs.declared.problems.EdgeCosts.TheVariants.{Random, Equal}
-use Rattle.pairing_load.specs.declared.words.Pairings.{Pairings}
-use Rattle.pairing_load.specs.declared.words.Prices.{Prices}
-use Rattle.pairing_load.specs.Words.{SpellPairings, SpellPrices, costs_word}
-use Rattle.pairing_load.proofs.Spelled.{one_number}
+use Rattle.pairing_load.specs.declared.words.PairingLoad.{PairingLoad}
+use Rattle.pairing_load.specs.declared.words.PriceLoad.{PriceLoad}
+use Rattle.pairing_load.specs.Words.{AreWordsOfPairings, AreWordsOfPrices, costs_word}
+use Rattle.pairing_load.proofs.Numerals.{one_number}
 
 one_costs : (a b : EdgeCosts) → costs_word a ≡ costs_word b → a ≡ b
 one_costs Random Random e = refl
@@ -14,7 +14,7 @@ one_costs Random Equal e = absurd (omega (arith, ap length e))
 one_costs Equal Random e = absurd (omega (arith, ap length e))
 one_costs Equal Equal e = refl
 
-pub one_pairings : (words : List (List ℕ)) (a b : Pairings) → SpellPairings words a → SpellPairings words b → a ≡ b
+pub one_pairings : (words : List (List ℕ)) (a b : PairingLoad) → AreWordsOfPairings words a → AreWordsOfPairings words b → a ≡ b
 one_pairings words a b h k =
     let e : codes "pairings" ∷ h.count ∷ h.size ∷ h.costs ∷ h.seed ∷ [] ≡ codes "pairings" ∷ k.count ∷ k.size ∷ k.costs ∷ k.seed ∷ [] = sym h.whole ∙ k.whole in
     let count' : h.count ≡ k.count = (cc) in
@@ -27,7 +27,7 @@ one_pairings words a b h k =
     let seed : a.seed ≡ b.seed = one_number h.seed a.seed b.seed h.tell.seed_fits k.tell.seed_fits h.tell.seed_told (seed' ∙ k.tell.seed_told) in
     λ i. record { count = count i; size = size i; costs = costs i; seed = seed i }
 
-pub one_prices : (words : List (List ℕ)) (a b : Prices) (o p : List ℕ) → SpellPrices words a o → SpellPrices words b p → (a ≡ b) × (o ≡ p)
+pub one_prices : (words : List (List ℕ)) (a b : PriceLoad) (o p : List ℕ) → AreWordsOfPrices words a o → AreWordsOfPrices words b p → (a ≡ b) × (o ≡ p)
 one_prices words a b o p h k =
     let e : codes "prices" ∷ h.count ∷ h.seed ∷ o ∷ [] ≡ codes "prices" ∷ k.count ∷ k.seed ∷ p ∷ [] = sym h.whole ∙ k.whole in
     let count' : h.count ≡ k.count = (cc) in

@@ -1,4 +1,3 @@
-pub mod Places
 pub mod Problems
 pub mod Totals
 pub mod Certificates

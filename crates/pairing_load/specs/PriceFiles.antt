@@ -9,15 +9,15 @@ use Rattle.price_form.specs.declared.certs.PriceRecord.TheVariants.{Edition, Cer
 use Rattle.price_form.specs.Files.{ArePrices, IsRecord}
 use Rattle.price_form.specs.Encoding.{cert_octets}
 use Rattle.pairing_load.specs.declared.problems.EdgeCosts.TheVariants.{Random}
-use Rattle.pairing_load.specs.Problems.{behind, generator_of}
+use Rattle.pairing_load.specs.Problems.{after, generator_of}
 use Rattle.pairing_load.specs.Certificates.{IsLoadCert, IsLoadRecord}
-use Rattle.pairing_load.specs.Places.{Got, GotFront}
+use Rattle.io_traits.specs.Places.{Got, GotPrefix}
 
 -- the generator of certificate number k
 abbrev pub generator_at : ℕ → ℕ → Lcg
-generator_at seed k = behind Random (k * 9) (generator_of seed)
+generator_at seed k = after Random (k * 9) (generator_of seed)
 
--- A price file of one edition, number 1 of an empty log, and behind it of so many certificates of a seed, each of
+-- A price file of one edition, number 1 of an empty log, and after it of so many certificates of a seed, each of
 -- which proves.
 pub record IsLoadFile (seed count : ℕ) (bytes : List ℕ) : Type 0 where
   pub records : List PriceRecord
@@ -31,13 +31,13 @@ pub record FileWritten (seed count : ℕ) (old new : HostState) : Type 0 where
   pub file : IsLoadFile seed count bytes
   pub got : Got places.Output old new bytes
 
--- Output got a front of such a file, of no more certificates than these
-pub record FrontWritten (seed count : ℕ) (old new : HostState) : Type 0 where
+-- Output got a prefix of such a file, of no more certificates than these
+pub record PrefixWritten (seed count : ℕ) (old new : HostState) : Type 0 where
   pub made : ℕ
   pub within : made ≤ count
   pub bytes : List ℕ
   pub file : IsLoadFile seed made bytes
-  pub got : GotFront places.Output old new bytes
+  pub got : GotPrefix places.Output old new bytes
 
 -- these octets are the record of certificate number k
 pub record RecordMade (k : ℕ) (g : Lcg) (octets : List ℕ) : Type 0 where

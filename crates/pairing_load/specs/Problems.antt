@@ -11,10 +11,10 @@ use Rattle.pairing_load.specs.declared.problems.EdgeCosts.TheVariants.{Random, E
 unfoldable pub generator_of : ℕ → Lcg
 generator_of seed = started 64 multiplier_64 seed (increment_of 64 54)
 
--- the generator behind the costs of n edges: costs that are all equal draw nothing
-unfoldable pub behind : EdgeCosts → ℕ → Lcg → Lcg
-behind Random n g = advance 64 multiplier_64 n g
-behind Equal n g = g
+-- the generator after the costs of n edges: costs that are all equal draw nothing
+unfoldable pub after : EdgeCosts → ℕ → Lcg → Lcg
+after Random n g = advance 64 multiplier_64 n g
+after Equal n g = g
 
 -- the cost of the next edge
 unfoldable pub next_cost : EdgeCosts → Lcg → ℕ
@@ -23,7 +23,7 @@ next_cost Equal g = 2048
 
 -- edge number i of a problem: plot by plot, and for each plot track by track
 abbrev pub full_edge : EdgeCosts → ℕ → Lcg → ℕ → Edge
-full_edge costs size g i = (i / size, i % size, next_cost costs (behind costs i g))
+full_edge costs size g i = (i / size, i % size, next_cost costs (after costs i g))
 
 -- as many plots as tracks, and an edge between each plot and each track
 unfoldable pub full_problem : EdgeCosts → ℕ → Lcg → Problem
@@ -35,4 +35,4 @@ full_problem costs size g = record {
 
 -- problem number k of a seed
 abbrev pub problem : EdgeCosts → ℕ → ℕ → ℕ → Problem
-problem costs size seed k = full_problem costs size (behind costs (k * (size * size)) (generator_of seed))
+problem costs size seed k = full_problem costs size (after costs (k * (size * size)) (generator_of seed))

@@ -13,7 +13,7 @@ pub record IsLeastCost (p : Problem) (c : ℕ) : Type 0 where
   pub worth : c ≡ cost (rows_of p) pairing
 
 -- the sum of the least costs of so many problems of a seed
-pub record IsTotal (costs : EdgeCosts) (size seed count total : ℕ) : Type 0 where
+pub record IsCostSum (costs : EdgeCosts) (size seed count total : ℕ) : Type 0 where
   pub each : List ℕ
   pub count_is : length each ≡ count
   pub least : (k : ℕ) → k < count → IsLeastCost (problem costs size seed k) (get_or each k 0)

@@ -4,8 +4,8 @@ use Rattle.std.specs.Fmt.{decimal}
 use Rattle.std.specs.declared.alloc.Global.{Global}
 use Rattle.pairing_load.specs.declared.problems.EdgeCosts.{EdgeCosts}
 use Rattle.pairing_load.specs.declared.problems.EdgeCosts.TheVariants.{Random, Equal}
-use Rattle.pairing_load.specs.declared.words.Pairings.{Pairings}
-use Rattle.pairing_load.specs.declared.words.Prices.{Prices}
+use Rattle.pairing_load.specs.declared.words.PairingLoad.{PairingLoad}
+use Rattle.pairing_load.specs.declared.words.PriceLoad.{PriceLoad}
 
 -- the octets of each word
 abbrev pub texts : List (String Global) → List (List ℕ)
@@ -21,7 +21,7 @@ pub record IsPlain (word : List ℕ) : Type 0 where
   pub short : get_or word 0 0 ≡ 48 → length word ≡ 1
 
 -- numbers in decimal digits, in the ranges of a load of problems
-pub record TellPairings (count size costs seed : List ℕ) (load : Pairings) : Type 0 where
+pub record TellPairings (count size costs seed : List ℕ) (load : PairingLoad) : Type 0 where
   pub count_told : count ≡ decimal load.count
   pub size_told : size ≡ decimal load.size
   pub costs_told : costs ≡ costs_word load.costs
@@ -32,14 +32,14 @@ pub record TellPairings (count size costs seed : List ℕ) (load : Pairings) : T
   pub seed_fits : load.seed < 2 ^ 64
 
 -- .. and of a load of certificates
-pub record TellPrices (count seed : List ℕ) (load : Prices) : Type 0 where
+pub record TellPrices (count seed : List ℕ) (load : PriceLoad) : Type 0 where
   pub count_told : count ≡ decimal load.count
   pub seed_told : seed ≡ decimal load.seed
   pub count_fits : load.count < 2 ^ 32
   pub seed_fits : load.seed < 2 ^ 64
 
 -- `pairings COUNT SIZE random|equal SEED`
-pub record SpellPairings (words : List (List ℕ)) (load : Pairings) : Type 0 where
+pub record AreWordsOfPairings (words : List (List ℕ)) (load : PairingLoad) : Type 0 where
   pub count : List ℕ
   pub size : List ℕ
   pub costs : List ℕ
@@ -48,7 +48,7 @@ pub record SpellPairings (words : List (List ℕ)) (load : Pairings) : Type 0 wh
   pub tell : TellPairings count size costs seed load
 
 -- `prices COUNT SEED OUTPUT`
-pub record SpellPrices (words : List (List ℕ)) (load : Prices) (output : List ℕ) : Type 0 where
+pub record AreWordsOfPrices (words : List (List ℕ)) (load : PriceLoad) (output : List ℕ) : Type 0 where
   pub count : List ℕ
   pub seed : List ℕ
   pub whole : words ≡ codes "prices" ∷ count ∷ seed ∷ output ∷ []
@@ -56,4 +56,4 @@ pub record SpellPrices (words : List (List ℕ)) (load : Prices) (output : List 
 
 -- one of the two
 abbrev pub AreLoad : List (List ℕ) → Type 0
-AreLoad words = ((load : Pairings) × SpellPairings words load) ⊎ ((load : Prices) × (output : List ℕ) × SpellPrices words load output)
+AreLoad words = ((load : PairingLoad) × AreWordsOfPairings words load) ⊎ ((load : PriceLoad) × (output : List ℕ) × AreWordsOfPrices words load output)

@@ -3,7 +3,7 @@ ghost use Rattle.std.specs.Prelude.{◌≡◌, ◌<◌, FitsSigned, IfOk, IfSome
 ghost use Rattle.std.specs.Int.{w64};
 ghost use Rattle.std.specs.List.{All};
 ghost use Rattle.pairing_load.specs.Certificates.{IsLoadCert};
-ghost use Rattle.pairing_load.specs.Problems.{behind};
+ghost use Rattle.pairing_load.specs.Problems.{after};
 
 use crate::problems::{EdgeCosts, next_problem};
 use assignment_dual::{Solved, solve};
@@ -22,7 +22,7 @@ pub fn next_cert(alloc: Global, number: u32, generator: &mut Pcg32) -> Result<Ce
     ensures named { IfOk result (λ c. All (λ x. IfSome x (λ t. t < c.costs.tracks)) c.pairing) }
     ensures u_fits { IfOk result (λ c. All (FitsSigned w64) c.u) }
     ensures v_fits { IfOk result (λ c. All (FitsSigned w64) c.v) }
-    ensures drawn { OnOk result (generator.new ≡ behind EdgeCosts.Random 9 generator.old) }
+    ensures drawn { OnOk result (generator.new ≡ after EdgeCosts.Random 9 generator.old) }
 {
     let costs = next_problem(alloc, EdgeCosts::Random, SIZE, generator)?;
     let Solved {

@@ -9,7 +9,6 @@ mod problems;
 mod run;
 mod solving;
 mod status;
-mod streams;
 #[cfg(test)]
 mod tests;
 mod words;
@@ -22,7 +21,7 @@ use std::process::ExitCode;
 use std::rt::Env;
 use std::{env, io};
 
-// The words behind the program's name. One that isn't UTF-8 is in no load, as no words are none.
+// The words after the program's name. One that isn't UTF-8 is in no load, as no words are none.
 fn words_of<R: Env + Alloc<A = Global>>(rt: &R) -> Result<Vec<String>, Status> {
     match env::args(rt) {
         Ok(arguments) => match arguments.skip(1).collect(rt.alloc()) {

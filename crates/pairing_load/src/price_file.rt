@@ -1,20 +1,20 @@
 // The price file of a load, written record by record.
-ghost use Rattle.std.specs.Prelude.{◌≡◌, IfErr, IfOk, OnErr, OnOk};
-ghost use Rattle.io_traits.specs.Host.{IsBoundFor, WritesOnly};
+ghost use Rattle.std.specs.Prelude.{◌≡◌, [], ◌∷◌, IfErr, IfOk, OnErr, OnOk};
+ghost use Rattle.io_traits.specs.Host.{IsBoundFor};
+ghost use Rattle.io_traits.specs.Touching.{Touches};
 ghost use Rattle.io_traits.specs.declared.host.Place.{Place};
 ghost use Rattle.io_traits.specs.declared.host.Way.{Way};
-ghost use Rattle.pairing_load.specs.Places.{Got, GotFront};
-ghost use Rattle.pairing_load.specs.PriceFiles.{FileWritten, FrontWritten, RecordMade};
-ghost use Rattle.pairing_load.specs.Problems.{behind};
+ghost use Rattle.io_traits.specs.Places.{Got, GotPrefix};
+ghost use Rattle.pairing_load.specs.PriceFiles.{FileWritten, PrefixWritten, RecordMade};
+ghost use Rattle.pairing_load.specs.Problems.{after};
 ghost use Rattle.pairing_load.specs.declared.problems.EdgeCosts.{EdgeCosts};
 ghost use Rattle.pairing_load.specs.Runs.{StopsWriting};
 
 use crate::certificates::next_cert;
 use crate::problems::generator_of;
 use crate::status::Status;
-use crate::streams::write_all;
-use crate::words::Prices;
-use io_traits::{Failed, Host, Place};
+use crate::words::PriceLoad;
+use io_traits::{Failed, Host, Place, write_all};
 use price_form::write_cert;
 use rand_pcg::Pcg32;
 use std::alloc::Global;
@@ -28,20 +28,20 @@ const HEAD: [u8; 21] = [
 /// The record of the next certificate.
 fn next_record(alloc: Global, number: u32, generator: &mut Pcg32) -> Result<Vec<u8>, NoMemory>
     ensures is { IfOk result (λ v. RecordMade number generator.old v.items) }
-    ensures drawn { OnOk result (generator.new ≡ behind EdgeCosts.Random 9 generator.old) }
+    ensures drawn { OnOk result (generator.new ≡ after EdgeCosts.Random 9 generator.old) }
 {
     let cert = next_cert(alloc, number, generator)?;
     write_cert(alloc, &cert)
 }
 
-/// Writes octets to Output. Where it fails, Output got a front of them.
+/// Writes octets to Output. Where it fails, Output got a prefix of them.
 fn put<H: Host>(octets: &[u8], host: &mut H) -> Result<(), Status>
     requires { IsBoundFor Way.Write (H.state host.old) Place.Output }
     ensures all { OnOk result (Got Place.Output (H.state host.old) (H.state host.new) octets.now) }
-    ensures front { OnErr result (GotFront Place.Output (H.state host.old) (H.state host.new) octets.now) }
+    ensures prefix { OnErr result (GotPrefix Place.Output (H.state host.old) (H.state host.new) octets.now) }
     ensures stops { IfErr result (λ s. StopsWriting s (H.state host.old) (H.state host.new)) }
     ensures kept { OnOk result ((H.state host.new).faults Place.Output ≡ (H.state host.old).faults Place.Output) }
-    ensures others { WritesOnly Place.Output (H.state host.old) (H.state host.new) }
+    ensures others { Touches [] [] (Place.Output ∷ []) (H.state host.old) (H.state host.new) }
 {
     match write_all(host, Place::Output, octets) {
         Ok(()) => Ok(()),
@@ -49,14 +49,14 @@ fn put<H: Host>(octets: &[u8], host: &mut H) -> Result<(), Status>
     }
 }
 
-/// Writes the price file of a load to Output, a record at a time. Where it stops, Output got a front of such a file.
-pub fn write_file<H: Host>(alloc: Global, load: Prices, host: &mut H) -> Result<(), Status>
+/// Writes the price file of a load to Output, a record at a time. Where it stops, Output got a prefix of such a file.
+pub fn write_file<H: Host>(alloc: Global, load: PriceLoad, host: &mut H) -> Result<(), Status>
     requires { IsBoundFor Way.Write (H.state host.old) Place.Output }
     ensures done { OnOk result (FileWritten load.seed load.count (H.state host.old) (H.state host.new)) }
-    ensures front { FrontWritten load.seed load.count (H.state host.old) (H.state host.new) }
+    ensures prefix { PrefixWritten load.seed load.count (H.state host.old) (H.state host.new) }
     ensures stops { IfErr result (λ s. StopsWriting s (H.state host.old) (H.state host.new)) }
     ensures kept { OnOk result ((H.state host.new).faults Place.Output ≡ (H.state host.old).faults Place.Output) }
-    ensures others { WritesOnly Place.Output (H.state host.old) (H.state host.new) }
+    ensures others { Touches [] [] (Place.Output ∷ []) (H.state host.old) (H.state host.new) }
 {
     put(&HEAD, host)?;
     let mut generator = generator_of(load.seed);

@@ -1,6 +1,6 @@
 // The assignment problems of a load.
 ghost use Rattle.std.specs.Prelude.{◌≡◌, ◌≤◌, ◌*◌, IfOk, OnOk};
-ghost use Rattle.pairing_load.specs.Problems.{behind, full_problem, generator_of, next_cost};
+ghost use Rattle.pairing_load.specs.Problems.{after, full_problem, generator_of, next_cost};
 
 use assignment_dual::Costs;
 use rand_core::utils::NextWord;
@@ -9,7 +9,7 @@ use std::alloc::Global;
 use trk_base::{NoMemory, Sequence};
 
 /// The most plots that a problem has.
-pub const MAX_SIZE: u32 = 1_000;
+pub const SIZE_LIMIT: u32 = 1_000;
 
 /// The stream of the generator of a load.
 const STREAM: u64 = 54;
@@ -37,7 +37,7 @@ pub fn generator_of(seed: u64) -> Pcg32
 fn next_cost(costs: EdgeCosts, generator: &mut Pcg32) -> u16
     ensures cost { result ≡ next_cost costs generator.old }
     ensures range { result ≤ 4096 }
-    ensures drawn { generator.new ≡ behind costs 1 generator.old }
+    ensures drawn { generator.new ≡ after costs 1 generator.old }
 {
     match costs {
         EdgeCosts::Random => (generator.next_word() % 4_097) as u16,
@@ -53,9 +53,9 @@ pub fn next_problem(
     generator: &mut Pcg32,
 ) -> Result<Costs, NoMemory>
     requires some { 1 ≤ size }
-    requires few { size ≤ MAX_SIZE }
+    requires few { size ≤ SIZE_LIMIT }
     ensures full { IfOk result (λ p. p ≡ full_problem costs size generator.old) }
-    ensures drawn { OnOk result (generator.new ≡ behind costs (size * size) generator.old) }
+    ensures drawn { OnOk result (generator.new ≡ after costs (size * size) generator.old) }
 {
     let mut edges = Vec::new(alloc);
     for number in 0..size * size {

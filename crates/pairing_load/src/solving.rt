@@ -1,10 +1,10 @@
 // The sum of the least costs of many problems.
 ghost use Rattle.std.specs.Prelude.{◌≡◌, ◌≤◌, ◌*◌, IfOk, OnOk, string_bytes};
-ghost use Rattle.pairing_load.specs.Problems.{behind, full_problem};
-ghost use Rattle.pairing_load.specs.Totals.{IsLeastCost, IsTotal, total_line};
+ghost use Rattle.pairing_load.specs.Problems.{after, full_problem};
+ghost use Rattle.pairing_load.specs.Totals.{IsLeastCost, IsCostSum, total_line};
 
-use crate::problems::{EdgeCosts, MAX_SIZE, generator_of, next_problem};
-use crate::words::Pairings;
+use crate::problems::{EdgeCosts, SIZE_LIMIT, generator_of, next_problem};
+use crate::words::PairingLoad;
 use assignment_dual::solve;
 use rand_pcg::Pcg32;
 use std::alloc::{AllocError, Global};
@@ -18,10 +18,10 @@ fn next_least_cost(
     generator: &mut Pcg32,
 ) -> Result<u64, NoMemory>
     requires some { 1 ≤ size }
-    requires few { size ≤ MAX_SIZE }
+    requires few { size ≤ SIZE_LIMIT }
     ensures least { IfOk result (IsLeastCost (full_problem costs size generator.old)) }
     ensures range { IfOk result (λ c. c ≤ 4097 * 1000) }
-    ensures drawn { OnOk result (generator.new ≡ behind costs (size * size) generator.old) }
+    ensures drawn { OnOk result (generator.new ≡ after costs (size * size) generator.old) }
 {
     let problem = next_problem(alloc, costs, size, generator)?;
     let solved = solve(alloc, &problem)?;
@@ -29,11 +29,11 @@ fn next_least_cost(
 }
 
 /// The sum of the least costs of all problems of a load.
-#[tactic(auto, using(crate::proofs::Least::total_more, crate::proofs::Least::behind_more, crate::proofs::Least::least_at))]
-pub fn total_cost(alloc: Global, load: Pairings) -> Result<u64, NoMemory>
+#[tactic(auto, using(crate::proofs::Least::total_more, crate::proofs::Least::after_more, crate::proofs::Least::least_at))]
+pub fn total_cost(alloc: Global, load: PairingLoad) -> Result<u64, NoMemory>
     requires some { 1 ≤ load.size }
-    requires few { load.size ≤ MAX_SIZE }
-    ensures { IfOk result (IsTotal load.costs load.size load.seed load.count) }
+    requires few { load.size ≤ SIZE_LIMIT }
+    ensures { IfOk result (IsCostSum load.costs load.size load.seed load.count) }
 {
     let mut generator = generator_of(load.seed);
     let mut total: u64 = 0;

@@ -1,19 +1,19 @@
 // The words of the command line.
 ghost use Rattle.std.specs.Prelude.{◌≡◌, ◌≢◌, ◌<◌, ◌≤◌, ◌^◌, ◌↔◌, ℕ, List, IfSome, IsNone, IsTrue};
 ghost use Rattle.std.specs.Fmt.{decimal};
-ghost use Rattle.pairing_load.specs.Words.{IsPlain, SpellPairings, SpellPrices, TellPairings, TellPrices, costs_word, texts};
+ghost use Rattle.pairing_load.specs.Words.{IsPlain, AreWordsOfPairings, AreWordsOfPrices, TellPairings, TellPrices, costs_word, texts};
 ghost use Rattle.pairing_load.specs.declared.problems.EdgeCosts.{EdgeCosts};
-ghost use Rattle.pairing_load.specs.declared.words.Pairings.{Pairings};
-ghost use Rattle.pairing_load.specs.declared.words.Prices.{Prices};
+ghost use Rattle.pairing_load.specs.declared.words.PairingLoad.{PairingLoad};
+ghost use Rattle.pairing_load.specs.declared.words.PriceLoad.{PriceLoad};
 
-use crate::problems::{EdgeCosts, MAX_SIZE};
+use crate::problems::{EdgeCosts, SIZE_LIMIT};
 
 /// The most problems or certificates of a load.
 const MAX_COUNT: u64 = 4_294_967_295;
 
 /// Assignment problems that are to be solved.
 #[derive(Clone, Copy, Debug, PartialEq, Eq)]
-pub struct Pairings {
+pub struct PairingLoad {
     /// How many problems there are.
     pub count: u32,
     /// How many plots each has, and how many tracks, from 1 to 1,000.
@@ -26,7 +26,7 @@ pub struct Pairings {
 
 /// Certificates that are to be written.
 #[derive(Clone, Copy, Debug, PartialEq, Eq)]
-pub struct Prices {
+pub struct PriceLoad {
     /// How many certificates there are.
     pub count: u32,
     /// What the costs are drawn from.
@@ -40,9 +40,9 @@ fn is_plain(octets: &[u8]) -> bool
     !matches!(octets, [b'+', ..] | [b'0', _, ..])
 }
 
-/// The number that a word spells: decimal digits, without a sign and without a leading zero.
+/// The number that a word tells: decimal digits, without a sign and without a leading zero.
 fn read_number(word: &str) -> Option<u64>
-    ensures spelled { IfSome result (λ n. word.now ≡ decimal n) }
+    ensures told { IfSome result (λ n. word.now ≡ decimal n) }
     ensures fits { IfSome result (λ n. n < 2 ^ 64) }
     ensures refused { IsNone result → (n : ℕ) → n < 2 ^ 64 → word.now ≢ decimal n }
 {
@@ -53,9 +53,9 @@ fn read_number(word: &str) -> Option<u64>
     }
 }
 
-/// The number that a word spells, below 2^32.
+/// The number that a word tells, below 2^32.
 fn read_count(word: &str) -> Option<u32>
-    ensures spelled { IfSome result (λ n. word.now ≡ decimal n) }
+    ensures told { IfSome result (λ n. word.now ≡ decimal n) }
     ensures fits { IfSome result (λ n. n < 2 ^ 32) }
     ensures refused { IsNone result → (n : ℕ) → n < 2 ^ 32 → word.now ≢ decimal n }
 {
@@ -67,15 +67,15 @@ fn read_count(word: &str) -> Option<u32>
     }
 }
 
-/// The number of plots that a word spells.
+/// The number of plots that a word tells.
 fn read_size(word: &str) -> Option<u32>
-    ensures spelled { IfSome result (λ n. word.now ≡ decimal n) }
+    ensures told { IfSome result (λ n. word.now ≡ decimal n) }
     ensures some { IfSome result (λ n. 1 ≤ n) }
-    ensures few { IfSome result (λ n. n ≤ MAX_SIZE) }
-    ensures refused { IsNone result → (n : ℕ) → 1 ≤ n → n ≤ MAX_SIZE → word.now ≢ decimal n }
+    ensures few { IfSome result (λ n. n ≤ SIZE_LIMIT) }
+    ensures refused { IsNone result → (n : ℕ) → 1 ≤ n → n ≤ SIZE_LIMIT → word.now ≢ decimal n }
 {
     let plots = read_count(word)?;
-    if 1 <= plots && plots <= MAX_SIZE {
+    if 1 <= plots && plots <= SIZE_LIMIT {
         Some(plots)
     } else {
         None
@@ -84,7 +84,7 @@ fn read_size(word: &str) -> Option<u32>
 
 /// The costs that a word names: `random` or `equal`.
 fn read_costs(word: &str) -> Option<EdgeCosts>
-    ensures spelled { IfSome result (λ k. word.now ≡ costs_word k) }
+    ensures told { IfSome result (λ k. word.now ≡ costs_word k) }
     ensures refused { IsNone result → (k : EdgeCosts) → word.now ≢ costs_word k }
 {
     if word == "random" {
@@ -96,17 +96,17 @@ fn read_costs(word: &str) -> Option<EdgeCosts>
     }
 }
 
-/// The problems that words behind `pairings` tell.
+/// The problems that words after `pairings` tell.
 fn pairings_with(
     count_text: &str,
     size_text: &str,
     costs_text: &str,
     seed_text: &str,
-) -> Option<Pairings>
+) -> Option<PairingLoad>
     ensures load { IfSome result (λ load. TellPairings count_text.now size_text.now costs_text.now seed_text.now load) }
-    ensures other { IsNone result → (load : Pairings) → TellPairings count_text.now size_text.now costs_text.now seed_text.now load → ⊥ }
+    ensures other { IsNone result → (load : PairingLoad) → TellPairings count_text.now size_text.now costs_text.now seed_text.now load → ⊥ }
 {
-    Some(Pairings {
+    Some(PairingLoad {
         count: read_count(count_text)?,
         size: read_size(size_text)?,
         costs: read_costs(costs_text)?,
@@ -115,9 +115,9 @@ fn pairings_with(
 }
 
 /// The problems that the words are: `pairings COUNT SIZE random|equal SEED`.
-pub fn pairings_of(words: &[String]) -> Option<Pairings>
-    ensures load { IfSome result (λ load. SpellPairings (texts words.now) load) }
-    ensures other { IsNone result → (load : Pairings) → SpellPairings (texts words.now) load → ⊥ }
+pub fn pairings_of(words: &[String]) -> Option<PairingLoad>
+    ensures load { IfSome result (λ load. AreWordsOfPairings (texts words.now) load) }
+    ensures other { IsNone result → (load : PairingLoad) → AreWordsOfPairings (texts words.now) load → ⊥ }
 {
     let [command, count, size, costs, seed] = words else {
         return None;
@@ -128,21 +128,21 @@ pub fn pairings_of(words: &[String]) -> Option<Pairings>
     pairings_with(count.as_str(), size.as_str(), costs.as_str(), seed.as_str())
 }
 
-/// The certificates that words behind `prices` tell.
-fn prices_with(count_text: &str, seed_text: &str) -> Option<Prices>
+/// The certificates that words after `prices` tell.
+fn prices_with(count_text: &str, seed_text: &str) -> Option<PriceLoad>
     ensures load { IfSome result (λ load. TellPrices count_text.now seed_text.now load) }
-    ensures other { IsNone result → (load : Prices) → TellPrices count_text.now seed_text.now load → ⊥ }
+    ensures other { IsNone result → (load : PriceLoad) → TellPrices count_text.now seed_text.now load → ⊥ }
 {
-    Some(Prices {
+    Some(PriceLoad {
         count: read_count(count_text)?,
         seed: read_number(seed_text)?,
     })
 }
 
 /// The certificates that the words are, and the name of their file: `prices COUNT SEED OUTPUT`.
-pub fn prices_of(words: &[String]) -> Option<(Prices, &str)>
-    ensures load { IfSome result (λ r. SpellPrices (texts words.now) r.0 r.1.now) }
-    ensures other { IsNone result → (load : Prices) (output : List ℕ) → SpellPrices (texts words.now) load output → ⊥ }
+pub fn prices_of(words: &[String]) -> Option<(PriceLoad, &str)>
+    ensures load { IfSome result (λ r. AreWordsOfPrices (texts words.now) r.0 r.1.now) }
+    ensures other { IsNone result → (load : PriceLoad) (output : List ℕ) → AreWordsOfPrices (texts words.now) load output → ⊥ }
 {
     let [command, count, seed, output] = words else {
         return None;

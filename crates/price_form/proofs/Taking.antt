@@ -1,7 +1,7 @@
 -- The offsets of a file's certificates, record by record.
 use Rattle.std.proofs.Common.{◌≡◌, ◌≢◌, ℕ, ◌+◌, ◌<◌, ◌≤◌, List, [], ◌∷◌, ◌++◌, length, get_or, take, arith, refl, sym, ◌∙◌, ap, subst}
 use Rattle.std.specs.List.{flat_map, All}
-use Rattle.std.proofs.lemmas.List.Elements.{All-push}
+use Rattle.std.proofs.lemmas.List.Elements.{All-cons, All-head, All-nil, All-push, All-tail}
 use Rattle.assignment_dual.specs.Problems.{IsProblem}
 use Rattle.price_form.specs.declared.certs.Cert.{Cert}
 use Rattle.price_form.specs.Certificates.{IsCert}
@@ -10,7 +10,7 @@ use Rattle.price_form.specs.declared.certs.PriceRecord.TheVariants.{Edition, Cer
 use Rattle.price_form.specs.declared.reading.Counts.{Counts}
 use Rattle.price_form.specs.Encoding.{cert_octets, price_record_octets}
 use Rattle.price_form.specs.Files.{magic, IsRecord, StandFrom, ArePrices, StopsAt}
-use Rattle.price_form.specs.Reading.{NoRecord, ReadsRecord, EndsRecord, HasCert, IsThere, offsets_of, AreOffsets, HasCounts, ReadsCert, cert_read, cert_end, end_of}
+use Rattle.price_form.specs.Reading.{NoRecord, ReadsRecord, EndsRecord, HasCert, BeginsCert, IsThere, offsets_of, AreOffsets, HasCounts, ReadsCert, cert_read, cert_end, end_of}
 use Rattle.price_form.proofs.Standing.{AreOctets, stands_head}
 use Rattle.price_form.proofs.Filed.{one_record, stops_here, whole_file, cert_reads}
 
@@ -77,12 +77,20 @@ taken_other bytes at end offsets t h other = by h.stands_there h.reads where
 pub taken_stops : (bytes : List ℕ) (at : ℕ) (offsets : List ℕ) → Taken bytes at offsets → at < length bytes → NoRecord bytes at → StopsAt bytes at
 taken_stops bytes at offsets t lt none = stops_here bytes at t.records lt t.encoded t.each none
 
+-- each of these offsets is where a certificate's record begins
+begins_each : (bytes : List ℕ) (rs : List PriceRecord) → All (IsThere bytes) rs → All (BeginsCert bytes) (offsets_of rs)
+begins_each bytes [] h = All-nil (BeginsCert bytes)
+begins_each bytes (Edition number cut ∷ rs) h = begins_each bytes rs (All-tail (IsThere bytes) (Edition number cut) rs h)
+begins_each bytes (Certified c at ∷ rs) h =
+    All-cons (BeginsCert bytes) at (offsets_of rs) (record { cert = c; has = All-head (IsThere bytes) (Certified c at) rs h }) (begins_each bytes rs (All-tail (IsThere bytes) (Certified c at) rs h))
+
 pub taken_whole : (bytes : List ℕ) (at : ℕ) (offsets : List ℕ) → Taken bytes at offsets → length bytes ≤ at → AreOffsets bytes offsets
 taken_whole bytes at offsets t le = record {
   records = t.records;
   file = whole_file bytes at t.records le t.encoded t.each t.places;
   offsets_are = t.offsets_are;
   there = t.there;
+  begins = subst (λ (o : List ℕ). All (BeginsCert bytes) o) (sym t.offsets_are) (begins_each bytes t.records t.there);
 }
 
 -- a certificate that was judged where it stands

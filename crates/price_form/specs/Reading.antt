@@ -87,6 +87,11 @@ pub record HasCert (xs : List ℕ) (p : ℕ) (c : Cert) : Type 0 where
   pub fits : IsInRange c
   pub stands : Stands xs p (cert_octets c)
 
+-- the record of some certificate begins at p
+pub record BeginsCert (xs : List ℕ) (p : ℕ) : Type 0 where
+  pub cert : Cert
+  pub has : HasCert xs p cert
+
 -- a record stands at p, up to the end
 pub record EndsRecord (xs : List ℕ) (p end : ℕ) : Type 0 where
   pub stands_there : PriceRecord
@@ -109,3 +114,4 @@ pub record AreOffsets (bytes : List ℕ) (offsets : List ℕ) : Type 0 where
   pub file : ArePrices bytes records
   pub offsets_are : offsets ≡ offsets_of records
   pub there : All (IsThere bytes) records
+  pub begins : All (BeginsCert bytes) offsets

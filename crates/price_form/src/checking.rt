@@ -5,7 +5,7 @@ ghost use Rattle.assignment_dual.specs.Problems.{rows_of, total, Proves};
 ghost use Rattle.price_form.specs.declared.certs.Cert.{Cert};
 ghost use Rattle.price_form.specs.Certificates.{IsCert};
 ghost use Rattle.price_form.specs.Checks.{EdgesHold, AreFeasible, Rises};
-ghost use Rattle.price_form.specs.Reading.{HasCert};
+ghost use Rattle.price_form.specs.Reading.{BeginsCert, HasCert};
 
 use crate::Cert;
 use crate::columns::{Column, Edges, Entries, Prices};
@@ -132,7 +132,7 @@ pub fn check(cert: &Cert) -> bool
 /// Whether the certificate whose record begins at this offset of a price file proves its pairing,
 /// as [`check`] says of it. Its numbers are judged where they stand, so it takes no memory either.
 pub fn check_at(octets: &[u8], at: usize) -> bool
-    requires { (c : Cert) × HasCert octets.now at c }
+    requires { BeginsCert octets.now at }
     ensures { (c : Cert) → HasCert octets.now at c → IsTrue result ↔ Proves c.costs c.pairing c.u c.v }
 {
     let counts = counts_of(octets, at);

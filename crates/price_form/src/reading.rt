@@ -1,10 +1,9 @@
 ghost use Rattle.std.specs.Prelude.{◌≡◌, ◌<◌, ◌≤◌, ◌-◌, ◌↔◌, ◌⊎◌, ◌^◌, ℕ, List, IsTrue, MatchOption, MatchResult, IfSome, IfOk, All, length};
 ghost use Rattle.trk_base.specs.Limits.{gate_cost};
 ghost use Rattle.assignment_dual.specs.Problems.{IsProblem};
-ghost use Rattle.price_form.specs.declared.certs.Cert.{Cert};
 ghost use Rattle.price_form.specs.declared.certs.PriceRecord.{PriceRecord};
 ghost use Rattle.assignment_dual.specs.Problems.{EdgeBefore, edge_at};
-ghost use Rattle.price_form.specs.Reading.{end_of, cert_end, cert_read, HasCert, HasCounts, ReadsNone, ReadsCert, NoRecord, ReadsRecord, EndsRecord, AreOffsets};
+ghost use Rattle.price_form.specs.Reading.{end_of, cert_end, cert_read, BeginsCert, HasCounts, ReadsNone, ReadsCert, NoRecord, ReadsRecord, EndsRecord, AreOffsets};
 ghost use Rattle.price_form.specs.Files.{ArePrices, IsPriceFault, IfPriceFault};
 
 use crate::columns::{Column, Edges, Entries};
@@ -60,7 +59,7 @@ fn counts_at(octets: &[u8], at: usize) -> Option<Counts>
 
 /// The counts of the certificate whose record begins at a place.
 pub(crate) fn counts_of(octets: &[u8], at: usize) -> Counts
-    requires { (c : Cert) × HasCert octets.now at c }
+    requires { BeginsCert octets.now at }
     ensures { HasCounts octets.now at result }
 {
     let plots = half_at(octets, at + 10);

@@ -1,5 +1,9 @@
-use crate::{PriceRecord, PricesError, check, prefix_fault, read_prices, write_cert};
+use crate::{
+    PriceRecord, PricesError, certificate_offsets, check, check_at, prefix_fault, read_prices,
+    start_prices, write_cert, write_edition,
+};
 use std::alloc::Global;
+use trk_base::TryCopy;
 
 // An edition, and the certificate of one plot that gets no track: a price file, of which the last
 // octet is the plot's price of 4,097.
@@ -44,7 +48,7 @@ fn with_price(mut file: [u8; 138], at: usize, price: i64) -> [u8; 138] {
     file
 }
 
-// Whether each certificate of a file proves.
+// Whether each certificate of a file proves, judged as it is read and where it stands.
 fn judged(alloc: Global, file: &[u8]) -> Option<bool> {
     let records = read_prices(alloc, file).ok()?;
     let mut all = true;
@@ -53,22 +57,33 @@ fn judged(alloc: Global, file: &[u8]) -> Option<bool> {
             all = all && check(cert);
         }
     }
-    Some(all)
+    let offsets = certificate_offsets(alloc, file).ok()?;
+    let mut in_place = true;
+    for offset in &offsets {
+        in_place = in_place && check_at(file, *offset);
+    }
+    (in_place == all).then_some(all)
 }
 
 #[test]
 fn reads_and_judges(rt: HostRuntime) {
     let records = read_prices(rt.alloc(), &ONE).expect(&rt, "a price file");
     assert_eq!(rt; records.len(), 2);
+    assert_eq!(rt; start_prices().as_slice(), &ONE[..4]);
+    let offsets = certificate_offsets(rt.alloc(), &ONE).expect(&rt, "a price file");
+    assert_eq!(rt; offsets.as_slice(), [21].as_slice());
     for record in &records {
         match record {
             PriceRecord::Edition { number, cut } => {
                 assert_eq!(rt; (*number, *cut), (1, 2));
+                let octets = write_edition(rt.alloc(), *number, *cut).expect(&rt, "a record");
+                assert_eq!(rt; octets.as_slice(), &ONE[4..21]);
             }
             PriceRecord::Cert { cert, at } => {
                 assert_eq!(rt; *at, 21);
                 assert!(rt; check(cert));
-                let octets = write_cert(rt.alloc(), cert).expect(&rt, "a record");
+                let copy = cert.copy(rt.alloc()).expect(&rt, "a copy");
+                let octets = write_cert(rt.alloc(), &copy).expect(&rt, "a record");
                 assert_eq!(rt; octets.as_slice(), &ONE[21..]);
             }
         }

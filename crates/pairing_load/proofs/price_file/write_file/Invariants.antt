@@ -1,5 +1,6 @@
-use Rattle.std.proofs.Common.{◌≡◌}
-use Rattle.io_traits.specs.Host.{IsBoundFor, WritesOnly}
+use Rattle.std.proofs.Common.{◌≡◌, [], ◌∷◌}
+use Rattle.io_traits.specs.Host.{IsBoundFor}
+use Rattle.io_traits.specs.Touching.{Touches}
 use Rattle.io_traits.specs.declared.host.Place.{Place}
 use Rattle.io_traits.specs.declared.host.Way.{Way}
 use Rattle.pairing_load.proofs.Filing.{Progress}
@@ -12,5 +13,5 @@ invariant-loop-number g l =
       bound : IsBoundFor Way.Write (state l.host) Place.Output;
       progress : Progress l.fn.load.seed l.number l.generator (state l.fn.host) (state l.host);
       faults : (state l.host).faults Place.Output ≡ (state l.fn.host).faults Place.Output;
-      others : WritesOnly Place.Output (state l.fn.host) (state l.host);
+      others : Touches [] [] (Place.Output ∷ []) (state l.fn.host) (state l.host);
     }

@@ -1,8 +1,8 @@
-use Rattle.pairing_load.proofs.Spelled.{decimal_plain, number_refused, number_spelled, plain_of, told_plain}
+use Rattle.pairing_load.proofs.Numerals.{decimal_plain, number_refused, number_told, plain_of, told_plain}
 use Rattle.pairing_load.proofs.words.read_number.Goals as goal
 
-pub returns-then-is_plain-clause-spelled : goal.returns-then-is_plain-clause-spelled
-returns-then-is_plain-clause-spelled c = number_spelled c.args.word.now c.parse.result c.ok.result (plain_of c.is_plain.ensures c.as_bytes.ensures.value c.if-is_plain.true) c.parse.ensures.value.0 c.ok.ensures.value
+pub returns-then-is_plain-clause-told : goal.returns-then-is_plain-clause-told
+returns-then-is_plain-clause-told c = number_told c.args.word.now c.parse.result c.ok.result (plain_of c.is_plain.ensures c.as_bytes.ensures.value c.if-is_plain.true) c.parse.ensures.value.0 c.ok.ensures.value
 
 pub returns-then-is_plain-clause-refused : goal.returns-then-is_plain-clause-refused
 returns-then-is_plain-clause-refused c = number_refused c.args.word.now c.parse.result c.ok.result c.parse.ensures.value.0 c.ok.ensures.value

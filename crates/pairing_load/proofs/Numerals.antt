@@ -12,16 +12,16 @@ use Rattle.pairing_load.specs.Words.{IsPlain}
 own : IsNumeralModel (AllDigits 10) (digits_value 10)
 own = numerals_by_value (AllDigits 10) tells_digits
 
--- what a plain word is read as, spells it
-pub spells : {E : Type 0} (word : List ℕ) (n : ℕ) (r : Result ℕ E) → IsPlain word → ParsesUnsigned 64 10 word r → r ≡ Ok n → word ≡ decimal n
-spells {E} word n (Ok m) plain h e =
+-- what a plain word is read as, tells it
+pub tells : {E : Type 0} (word : List ℕ) (n : ℕ) (r : Result ℕ E) → IsPlain word → ParsesUnsigned 64 10 word r → r ≡ Ok n → word ≡ decimal n
+tells {E} word n (Ok m) plain h e =
     let k : (AllDigits 10 word × (0 < length word) × (digits_value 10 word < 2 ^ 64)) × (m ≡ digits_value 10 word) = parse_plain own {E = E} 64 word (Ok m) h plain.unsigned in
     let same : m ≡ n = (cc) in
     sym (decimal-digits_value own word k.0.0 k.0.1 plain.short k.0.2) ∙ ap decimal (sym k.1 ∙ same)
-spells {E} word n (Err f) plain h e = cc
+tells {E} word n (Err f) plain h e = cc
 
-pub spells_none : {E : Type 0} (word : List ℕ) (n : ℕ) (f : E) (r : Result ℕ E) → ParsesUnsigned 64 10 word r → r ≡ Err f → n < 2 ^ 64 → word ≢ decimal n
-spells_none {E} word n f r h e lt is =
+pub tells_none : {E : Type 0} (word : List ℕ) (n : ℕ) (f : E) (r : Result ℕ E) → ParsesUnsigned 64 10 word r → r ≡ Err f → n < 2 ^ 64 → word ≢ decimal n
+tells_none {E} word n f r h e lt is =
     let ok : r ≡ Ok n = parse-decimal 64 n word r lt lt is h in
     cc
 
@@ -49,16 +49,16 @@ same_answer : (E : Type 0) (m : ℕ) → let r : Result ℕ E = Ok m in r ≡ r
 same_answer E m = refl
 
 -- what the word is read as
-pub number_spelled : {E : Type 0} (word : List ℕ) (r : Result ℕ E) (o : Option ℕ) → IsPlain word → ParsesUnsigned 64 10 word r → o ≡ result_ok r → IfSome o (λ n. word ≡ decimal n)
-number_spelled {E} word (Ok m) o plain h e = subst (λ (p : Option ℕ). IfSome p (λ n. word ≡ decimal n)) (sym e) (spells {E = E} word m (Ok m) plain h (same_answer E m))
-number_spelled {E} word (Err f) o plain h e = subst (λ (p : Option ℕ). IfSome p (λ n. word ≡ decimal n)) (sym e) tt
+pub number_told : {E : Type 0} (word : List ℕ) (r : Result ℕ E) (o : Option ℕ) → IsPlain word → ParsesUnsigned 64 10 word r → o ≡ result_ok r → IfSome o (λ n. word ≡ decimal n)
+number_told {E} word (Ok m) o plain h e = subst (λ (p : Option ℕ). IfSome p (λ n. word ≡ decimal n)) (sym e) (tells {E = E} word m (Ok m) plain h (same_answer E m))
+number_told {E} word (Err f) o plain h e = subst (λ (p : Option ℕ). IfSome p (λ n. word ≡ decimal n)) (sym e) tt
 
 pub number_refused : {E : Type 0} (word : List ℕ) (r : Result ℕ E) (o : Option ℕ) → ParsesUnsigned 64 10 word r → o ≡ result_ok r → IsNone o → (n : ℕ) → n < 2 ^ 64 → word ≢ decimal n
 number_refused {E} word (Ok m) o h e none n lt is =
     let clash : IsNone (Some m) = subst (λ (p : Option ℕ). IsNone p) e none in
     cc
-number_refused {E} word (Err f) o h e none n lt is = spells_none word n f (Err f) h refl lt is
+number_refused {E} word (Err f) o h e none n lt is = tells_none word n f (Err f) h refl lt is
 
--- a word spells one number
+-- a word tells one number
 pub one_number : (word : List ℕ) (m n : ℕ) → m < 2 ^ 64 → n < 2 ^ 64 → word ≡ decimal m → word ≡ decimal n → m ≡ n
 one_number word m n a b e f = decimal_injective m n a b (sym e ∙ f)
