@@ -8,7 +8,8 @@ use Rattle.plot_geometry.specs.declared.biases.Bias.{Bias}
 use Rattle.recording.specs.declared.ending.Ending.{Ending}
 use Rattle.recording.specs.declared.ending.Ending.TheVariants.{Nothing, Other, Cut}
 use Rattle.recording.specs.declared.header.Header.TheVariants.{Second}
-use Rattle.recording.specs.Biases.{Numbers, FitOctets, IsWrong, HasWrongNumber, IsTruncatedBias, NumberEnds, bias_octets, big_endian, signed_octets, slot_limit}
+use Rattle.asterix_frame.specs.Values.{big_endian}
+use Rattle.recording.specs.Biases.{Numbers, FitOctets, IsWrong, HasWrongNumber, IsTruncatedBias, NumberEnds, bias_octets, signed_octets, slot_limit}
 use Rattle.recording.specs.Items.{Item, IsItem, IsNoItem, IsTruncatedItem, ItemsEnd, bias, item_octets, numbers_of}
 use Rattle.recording.proofs.Codes.{IsBytes, Begins, rest_bytes}
 use Rattle.recording.proofs.Octets.{five_octets, five_same, signed_number, signed_same, two}

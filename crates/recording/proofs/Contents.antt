@@ -6,7 +6,7 @@ use Rattle.std.specs.List.{flat_map, AllByRecursion}
 use Rattle.recording.specs.declared.ending.Ending.{Ending}
 use Rattle.recording.specs.declared.header.Header.{Header}
 use Rattle.recording.specs.declared.header.Header.TheVariants.{Second}
-use Rattle.recording.specs.Biases.{big_endian}
+use Rattle.asterix_frame.specs.Values.{big_endian}
 use Rattle.recording.specs.Endings.{fault_of}
 use Rattle.recording.specs.Items.{Item, IsItem, AreItems, item_octets}
 use Rattle.recording.specs.Readings.{HasContents, HasHeader, magic, header_octets, recording}

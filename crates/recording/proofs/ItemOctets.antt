@@ -8,7 +8,8 @@ use Rattle.plot_geometry.specs.BiasOrder.{same_bias}
 use Rattle.recording.specs.declared.header.Header.{Header}
 use Rattle.recording.specs.declared.header.Header.TheVariants.{First, Second}
 use Rattle.recording.specs.Endings.{IsTruncated}
-use Rattle.recording.specs.Biases.{HasWrongNumber, IsTruncatedBias, big_endian, bias_octets}
+use Rattle.asterix_frame.specs.Values.{big_endian}
+use Rattle.recording.specs.Biases.{HasWrongNumber, IsTruncatedBias, bias_octets}
 use Rattle.recording.specs.Items.{Item, datagram, tick, bias, item_octets, numbers_of, IsItem, IsNoItem, IsTruncatedItem}
 use Rattle.recording.specs.Readings.{header_octets, version}
 use Rattle.recording.proofs.Codes.{IsCode, IsBytes, Begins, BeginsOne, Decides, truncated_first}

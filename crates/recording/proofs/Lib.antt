@@ -1,6 +1,7 @@
 pub mod BiasOctets
 pub mod BlockOctets
 pub mod BlockTimes
+pub mod Clocks
 pub mod Codes
 pub mod Contents
 pub mod ItemOctets

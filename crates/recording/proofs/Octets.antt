@@ -5,7 +5,8 @@ use Rattle.std.specs.Int.{w16, cast_signed, cast_unsigned}
 use Rattle.std.proofs.Math.Facts.{Fits-lt-pow, Fits-of_lt, Fits-of_z, sfits_to_z}
 use Rattle.std.proofs.lemmas.Int.{to_z-of_z, of_z-to_z}
 use Rattle.std.proofs.lemmas.List.{take_at, drop_at}
-use Rattle.recording.specs.Biases.{big_endian, signed_octets}
+use Rattle.asterix_frame.specs.Values.{big_endian}
+use Rattle.recording.specs.Biases.{signed_octets}
 
 pub five_octets : (a b c d e : ℕ) → a < 256 → b < 256 → c < 256 → d < 256 → e < 256 → (n : ℕ) × (n < 2 ^ 40) × (big_endian 5 n ≡ a ∷ b ∷ c ∷ d ∷ e ∷ [])
 five_octets a b c d e ha hb hc hd he =

@@ -15,7 +15,8 @@ use Rattle.recording.specs.Endings.{fault_of}
 use Rattle.recording.specs.Items.{Item, datagram}
 use Rattle.recording.specs.Raw.{TimedBlock, blocks_of, start_at, start_of, tick_before, last_tick, ticks, items_from, last_from, closing}
 use Rattle.recording.specs.Readings.{HasHeader, IsRaw}
-use Rattle.recording.specs.Playing.{HasPlayed, IsPlayed, PlaysAll, closing_tick}
+use Rattle.recording.specs.Playing.{HasPlayed, IsPlayed, PlaysAll}
+use Rattle.recording.proofs.Clocks.{closing_tick}
 use Rattle.recording.specs.Answers.{items_of}
 use Rattle.recording.specs.Times.{HasTimes}
 use Rattle.recording.proofs.Playing.{last_waits}

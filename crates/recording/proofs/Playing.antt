@@ -7,7 +7,8 @@ use Rattle.asterix_frame.specs.Blocks.{encoded}
 use Rattle.recording.specs.declared.raw.Clock.{Clock}
 use Rattle.recording.specs.Items.{Item, datagram}
 use Rattle.recording.specs.Raw.{TimedBlock, all_times, whole_seconds, start_at, start_of, tick_at, tick_before, last_tick, ticks, items_from, last_from}
-use Rattle.recording.specs.Playing.{Started, Waiting, IsPlayed, clock_behind, clock_with, tick_of}
+use Rattle.recording.specs.Playing.{Started, Waiting, IsPlayed}
+use Rattle.recording.proofs.Clocks.{clock_after, clock_with, tick_of}
 
 -- the items that a block brings
 abbrev pub brings : ℕ → TimedBlock → List Item
@@ -93,7 +94,7 @@ waiting bs b played e w =
     }
 
 -- one more block
-pub played_more : (bs : List TimedBlock) (b : TimedBlock) (clock : Option Clock) (times : List ℕ) (played : List Item) → b.times ≡ times → IsPlayed bs clock played → IsPlayed (bs ++ b ∷ []) (clock_behind (clock_with clock times) (tick_of (clock_with clock times) times)) (played ++ (ticks (tick_of (clock_with clock times) times) ++ datagram 0 (encoded b.block) ∷ []))
+pub played_more : (bs : List TimedBlock) (b : TimedBlock) (clock : Option Clock) (times : List ℕ) (played : List Item) → b.times ≡ times → IsPlayed bs clock played → IsPlayed (bs ++ b ∷ []) (clock_after (clock_with clock times) (tick_of (clock_with clock times) times)) (played ++ (ticks (tick_of (clock_with clock times) times) ++ datagram 0 (encoded b.block) ∷ []))
 played_more bs b (Some clock) times played e h = started bs b clock (tick_before clock.last times) played (ready_more bs b clock played h) (ap (tick_before clock.last) e)
 played_more bs b None [] played e h = waiting bs b played e h
 played_more bs b None (time ∷ times) played e h =

@@ -1,12 +1,9 @@
 -- The record of a change of biases, whatever its numbers, and which of them are out of range.
 use Rattle.std.specs.Prelude.{◌≡◌, ◌<◌, ◌≤◌, ◌^◌, ◌⊎◌, ℕ, ℤ, List, [], ◌∷◌, ◌++◌, length, take, unsigned_abs, FitsSigned}
-use Rattle.std.specs.Int.{w16, bytes_high_first, cast_unsigned}
+use Rattle.std.specs.Int.{w16, cast_unsigned}
+use Rattle.asterix_frame.specs.Values.{big_endian}
 use Rattle.recording.specs.declared.ending.Ending.{Ending}
 use Rattle.recording.specs.declared.ending.Ending.TheVariants.{Nothing, Other, Cut}
-
--- the number in this many octets
-abbrev pub big_endian : ℕ → ℕ → List ℕ
-big_endian octets n = bytes_high_first octets n
 
 -- a signed number in two octets, as two's complement
 abbrev pub signed_octets : ℤ → List ℕ

@@ -4,7 +4,8 @@ use Rattle.plot_geometry.specs.declared.biases.Bias.{Bias}
 use Rattle.recording.specs.declared.ending.Ending.{Ending}
 use Rattle.recording.specs.declared.header.Header.{Header}
 use Rattle.recording.specs.declared.header.Header.TheVariants.{First, Second}
-use Rattle.recording.specs.Biases.{Numbers, big_endian, slot_limit, bias_octets, HasWrongNumber, IsTruncatedBias}
+use Rattle.asterix_frame.specs.Values.{big_endian}
+use Rattle.recording.specs.Biases.{Numbers, slot_limit, bias_octets, HasWrongNumber, IsTruncatedBias}
 use Rattle.recording.specs.Endings.{IsTruncated, EndsSo, AreWritten}
 
 -- a datagram of a feed, a tick, or the biases of a radar from a slot on

@@ -1,13 +1,12 @@
 -- How far the blocks of the raw form were played.
-use Rattle.std.specs.Prelude.{◌≡◌, ◌<◌, ◌^◌, ℕ, ◌+◌, List, [], ◌∷◌, length, Option, Some, None}
+use Rattle.std.specs.Prelude.{◌≡◌, ◌<◌, ◌^◌, ℕ, List, [], length, Option, Some, None}
 use Rattle.std.specs.List.{AllByRecursion}
 use Rattle.asterix_frame.specs.Blocks.{encoding}
 use Rattle.recording.specs.declared.ending.Ending.{Ending}
-use Rattle.recording.specs.declared.item.Item.{Item}
 use Rattle.recording.specs.declared.raw.Clock.{Clock}
 use Rattle.recording.specs.declared.raw.Player.{Player}
 use Rattle.recording.specs.Blocks.{AreBlocks}
-use Rattle.recording.specs.Raw.{TimedBlock, all_times, blocks_of, start_of, items_from, last_from, last_tick, second, tick_at, tick_before, whole_seconds}
+use Rattle.recording.specs.Raw.{TimedBlock, all_times, blocks_of, start_of, items_from, last_from}
 use Rattle.recording.specs.Items as items
 use Rattle.recording.specs.Times.{HasTimes}
 use Rattle.recording.specs.Answers.{items_of}
@@ -16,22 +15,6 @@ use Rattle.recording.specs.Answers.{items_of}
 pub record InRange (clock : Clock) : Type 0 where
   pub start : clock.start < 2 ^ 40
   pub last : clock.last < 2 ^ 40
-
--- It begins with the first time of day, in whole seconds.
-abbrev pub clock_with : Option Clock → List ℕ → Option Clock
-clock_with (Some clock) times = Some clock
-clock_with None [] = None
-clock_with None (time ∷ times) = Some (record { start = whole_seconds time; last = whole_seconds time })
-
--- the tick before a block with these times of day
-abbrev pub tick_of : Option Clock → List ℕ → Option ℕ
-tick_of None times = None
-tick_of (Some clock) times = tick_before clock.last times
-
--- the clock behind that tick
-abbrev pub clock_behind : Option Clock → Option ℕ → Option Clock
-clock_behind None tick = None
-clock_behind (Some clock) tick = Some (record { start = clock.start; last = last_tick clock.last tick })
 
 -- The clock began at the first time of day, and stands at the last tick.
 pub record Started (bs : List TimedBlock) (clock : Clock) (played : List items.Item) : Type 0 where
@@ -51,12 +34,6 @@ IsPlayed bs (Some clock) played = Started bs clock played
 
 abbrev pub HasPlayed : List TimedBlock → Player → Type 0
 HasPlayed bs p = IsPlayed bs p.clock (items_of p.items.items)
-
--- the tick behind the last of these items
-abbrev pub closing_tick : List Item → ℕ → Option ℕ → Option ℕ
-closing_tick [] last fault = None
-closing_tick (item ∷ items) last (Some place) = None
-closing_tick (item ∷ items) last None = tick_at (last + second)
 
 -- The octets are these blocks, and all are played.
 pub record PlaysAll (octets : List ℕ) (p : Player) (ending : Ending) (place : ℕ) : Type 0 where

@@ -40,11 +40,11 @@ latest last times = fold max 0 (map (λ tod. unwrapped tod last) times)
 abbrev pub tick_at : ℕ → Option ℕ
 tick_at time = if nat_lt time (2 ^ 40) then Some time else None
 
--- the tick before a block: where its latest time lies a second or more behind the last tick
+-- the tick before a block: where its latest time lies a second or more after the last tick
 abbrev pub tick_before : ℕ → List ℕ → Option ℕ
 tick_before last times = if nat_le (last + second) (latest last times) then tick_at (whole_seconds (latest last times)) else None
 
--- the last tick behind that one
+-- the last tick after that one
 abbrev pub last_tick : ℕ → Option ℕ → ℕ
 last_tick last None = last
 last_tick last (Some time) = time

@@ -6,7 +6,7 @@ use Rattle.recording.specs.declared.ending.Ending.{Ending}
 use Rattle.recording.specs.declared.header.Header.{Header}
 use Rattle.recording.specs.declared.header.Header.TheVariants.{First, Second}
 use Rattle.recording.specs.Endings.{fault_of}
-use Rattle.recording.specs.Biases.{big_endian}
+use Rattle.asterix_frame.specs.Values.{big_endian}
 use Rattle.recording.specs.Items.{Item, item_octets, AreItems}
 use Rattle.recording.specs.Blocks.{AreBlocks}
 use Rattle.recording.specs.Raw.{TimedBlock, blocks_of, start_of, raw_items}

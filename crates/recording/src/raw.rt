@@ -1,11 +1,12 @@
 // The raw form: data blocks alone.
-ghost use Rattle.std.specs.Prelude.{◌≡◌, ◌<◌, ◌≤◌, ◌^◌, ◌+◌, ◌∷◌, [], ◌++◌, ℕ, List, All, None, IfOk, IfSome, OnOk};
+ghost use Rattle.std.specs.Prelude.{◌≡◌, ◌<◌, ◌≤◌, ◌^◌, ◌+◌, ◌∷◌, [], ◌++◌, ℕ, List, All, None, IfOk, IfSome, OnOk, slice_get, length};
+ghost use Rattle.std.specs.Option.{option_and_then, option_map, option_or};
 ghost use Rattle.std.specs.List.{AllByRecursion};
 ghost use Rattle.trk_base.specs.Numbers.{day};
 ghost use Rattle.asterix_frame.specs.Blocks.{BeginsNone, encoded};
 ghost use Rattle.recording.specs.Blocks.{BlocksEnd};
-ghost use Rattle.recording.specs.Raw.{TimedBlock, latest, tick_at, tick_before, ticks};
-ghost use Rattle.recording.specs.Playing.{InRange, HasPlayed, PlaysAll, clock_behind, clock_with, closing_tick, tick_of};
+ghost use Rattle.recording.specs.Raw.{TimedBlock, last_tick, latest, second, tick_at, tick_before, ticks, whole_seconds};
+ghost use Rattle.recording.specs.Playing.{InRange, HasPlayed, PlaysAll};
 ghost use Rattle.recording.specs.Readings.{HasContents, HasHeader};
 ghost use Rattle.recording.specs.Answers.{items_of};
 ghost use Rattle.recording.specs.Times.{HasTimes};
@@ -44,7 +45,7 @@ pub(crate) struct Player<'a> {
 fn clock_with(clock: Option<Clock>, times: &[u32]) -> Option<Clock>
     requires in_range { IfSome clock InRange }
     requires times { All (λ tod. tod < day) times.now }
-    ensures clock { result ≡ clock_with clock times.now }
+    ensures clock { result ≡ option_or clock (option_map (λ time. record { start = whole_seconds time; last = whole_seconds time }) (slice_get times.now 0)) }
     ensures in_range { IfSome result InRange }
 {
     if clock.is_some() {
@@ -94,17 +95,17 @@ fn tick_before(last: u64, times: &[u32]) -> Option<u64>
 fn tick_of(clock: Option<Clock>, times: &[u32]) -> Option<u64>
     requires in_range { IfSome clock InRange }
     requires times { All (λ tod. tod < day) times.now }
-    ensures tick { result ≡ tick_of clock times.now }
+    ensures tick { result ≡ option_and_then (λ k. tick_before k.last times.now) clock }
     ensures in_range { IfSome result (λ time. time < 2 ^ 40) }
 {
     tick_before(clock?.last, times)
 }
 
-// The clock behind that tick.
-fn clock_behind(clock: Option<Clock>, tick: Option<u64>) -> Option<Clock>
+// The clock after that tick.
+fn clock_after(clock: Option<Clock>, tick: Option<u64>) -> Option<Clock>
     requires clock { IfSome clock InRange }
     requires tick { IfSome tick (λ time. time < 2 ^ 40) }
-    ensures clock { result ≡ clock_behind clock tick }
+    ensures clock { result ≡ option_map (λ k. record { start = k.start; last = last_tick k.last tick }) clock }
     ensures in_range { IfSome result InRange }
 {
     let Clock { start, last } = clock?;
@@ -112,7 +113,7 @@ fn clock_behind(clock: Option<Clock>, tick: Option<u64>) -> Option<Clock>
     Some(Clock { start, last })
 }
 
-// Puts a tick behind the items, where there is one.
+// Puts a tick after the items, where there is one.
 fn push_tick(items: &mut Vec<Item<'_>>, tick: Option<u64>) -> Result<(), NoMemory>
     ensures { OnOk result (items_of items.new.items ≡ items_of items.old.items ++ ticks tick) }
 {
@@ -122,10 +123,12 @@ fn push_tick(items: &mut Vec<Item<'_>>, tick: Option<u64>) -> Result<(), NoMemor
     Ok(())
 }
 
-// The tick behind the last block, where there is one and no fault.
+// The tick after the last block, where there is one and no fault.
 fn closing_tick(items: &[Item<'_>], last: u64, fault: Option<usize>) -> Option<u64>
     requires { last < 2 ^ 40 }
-    ensures { result ≡ closing_tick items.now last fault }
+    ensures none { items.now ≡ [] → result ≡ None }
+    ensures faulty { IfSome fault (λ place. result ≡ None) }
+    ensures follows { 0 < length items.now → fault ≡ None → result ≡ tick_at (last + second) }
 {
     if items.is_empty() || fault.is_some() {
         return None;
@@ -159,7 +162,7 @@ impl<'a> Player<'a> {
             feed: 0,
             bytes: octets,
         })?;
-        self.clock = clock_behind(clock, tick);
+        self.clock = clock_after(clock, tick);
         Ok(())
     }
 }

@@ -1,7 +1,8 @@
 // The items of a recording, from the left.
 ghost use Rattle.std.specs.Prelude.{◌≡◌, ◌<◌, ◌≤◌, ◌^◌, ◌++◌, ◌∷◌, length, unsigned_abs, None, IfOk, IfErr, IfSome, IfNone};
 ghost use Rattle.std.specs.List.{flat_map};
-ghost use Rattle.recording.specs.Biases.{NumberEnds, big_endian, signed_octets, slot_limit};
+ghost use Rattle.asterix_frame.specs.Values.{big_endian};
+ghost use Rattle.recording.specs.Biases.{NumberEnds, signed_octets, slot_limit};
 ghost use Rattle.recording.specs.declared.header.Header.{Header};
 ghost use Rattle.recording.specs.Items.{IsItem, ItemsEnd, AreItems, item_octets};
 ghost use Rattle.recording.specs.Readings.{HasHeader, magic};
