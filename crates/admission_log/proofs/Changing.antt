@@ -64,11 +64,11 @@ pub last_more : (radar n : ℕ) (xs : List Entry) (e : Entry) → last_change ra
 last_more radar n xs e =
     ap (reduce (ord_max entry_cmp)) (filter-append (is_change radar n) xs (e ∷ []))
     ∙ (let at : (b : Bool) → reduce (ord_max entry_cmp) (filter (is_change radar n) xs ++ cond b (e ∷ []) []) ≡ cond b (Some (later (last_change radar n xs) e)) (last_change radar n xs) =
-          λ b. elim b as (λ b. reduce (ord_max entry_cmp) (filter (is_change radar n) xs ++ cond b (e ∷ []) []) ≡ cond b (Some (later (last_change radar n xs) e)) (last_change radar n xs)) [
-            | true ↦ later_of (filter (is_change radar n) xs) e
-            | false ↦ ap (reduce (ord_max entry_cmp)) (append-nil (filter (is_change radar n) xs))
-          ] in
-        at (is_change radar n e))
+    λ b. elim b as (λ b. reduce (ord_max entry_cmp) (filter (is_change radar n) xs ++ cond b (e ∷ []) []) ≡ cond b (Some (later (last_change radar n xs) e)) (last_change radar n xs)) [
+      | true ↦ later_of (filter (is_change radar n) xs) e
+      | false ↦ ap (reduce (ord_max entry_cmp)) (append-nil (filter (is_change radar n) xs))
+    ] in
+    at (is_change radar n e))
 
 -- ---- one more plot
 

@@ -1,5 +1,5 @@
 -- Elements of a list, and the greatest of some entries.
-use Rattle.std.proofs.Common.{◌≡◌, ◌∙◌, ap, sym, subst, refl, Bool, true, false, cond, List, [], ◌∷◌, ◌++◌, Option, Some, ◌⊎◌, inl, inr}
+use Rattle.std.proofs.Common.{◌≡◌, ◌∙◌, ap, sym, subst, refl, Bool, true, false, cond, List, [], ◌∷◌, ◌++◌, ◌⊎◌, inl, inr}
 use Rattle.std.specs.Prelude.{filter, fold}
 use Rattle.std.specs.Cmp.{IsStrictWeakOrder}
 use Rattle.std.specs.Ordering.{is_lt, ord_max, ordering_reverse}
@@ -45,9 +45,9 @@ passes_filtered {X} p x (y ∷ xs) h =
     let at : (b : Bool) → p y ≡ b → Has x (cond b (y ∷ filter p xs) (filter p xs)) → Has x (y ∷ xs) × (p x ≡ true) =
     λ b. elim b as (λ b. p y ≡ b → Has x (cond b (y ∷ filter p xs) (filter p xs)) → Has x (y ∷ xs) × (p x ≡ true)) [
       | true ↦ λ e k. elim k [
-          | inl same ↦ (inl same, ap p same ∙ e)
-          | inr more ↦ (let rest = passes_filtered p x xs more in (inr rest.0, rest.1))
-        ]
+        | inl same ↦ (inl same, ap p same ∙ e)
+        | inr more ↦ (let rest = passes_filtered p x xs more in (inr rest.0, rest.1))
+      ]
       | false ↦ λ e k. let rest = passes_filtered p x xs k in (inr rest.0, rest.1)
     ] in
     at (p y) refl h
@@ -97,8 +97,8 @@ greatest_is x (y ∷ xs) =
       least = λ z h. elim h [
         | inl first ↦ subst (λ z. is_lt (entry_cmp r z) ≡ false) (sym first) (order.chain r m x above max.first)
         | inr others ↦ elim others [
-            | inl second ↦ subst (λ z. is_lt (entry_cmp r z) ≡ false) (sym second) (order.chain r m y above max.second)
-            | inr more ↦ rest.least z (inr more)
-          ]
+          | inl second ↦ subst (λ z. is_lt (entry_cmp r z) ≡ false) (sym second) (order.chain r m y above max.second)
+          | inr more ↦ rest.least z (inr more)
+        ]
       ];
     }

@@ -1,6 +1,6 @@
 -- The biases that hold for a slot are those of the last change, by the events of the log.
-use Rattle.std.proofs.Common.{◌≡◌, ◌∙◌, ap, sym, subst, refl, ℕ, zero, suc, ◌+◌, ◌<◌, ◌≤◌, Bool, true, false, List, [], ◌∷◌, ◌++◌, map, Option, Some, None, ◌⊎◌, inl, inr, arith}
-use Rattle.std.specs.Prelude.{slice_get, filter, fold, nat_le, ◌==◌, ◌&&◌}
+use Rattle.std.proofs.Common.{◌≡◌, ◌∙◌, ap, sym, subst, refl, ℕ, zero, suc, ◌+◌, ◌<◌, ◌≤◌, false, List, [], ◌∷◌, ◌++◌, map, Some, ◌⊎◌, inl, inr, arith}
+use Rattle.std.specs.Prelude.{slice_get, filter, fold, nat_le, ◌==◌}
 use Rattle.std.specs.List.{flat_map, enumerate_from, reduce}
 use Rattle.std.specs.Ordering.{is_lt, nat_cmp, ord_max, ordering_then, MatchOrdering}
 use Rattle.std.specs.declared.cmp.Ordering.{Ordering}
@@ -17,8 +17,8 @@ use Rattle.admission_log.specs.declared.entries.Entry.TheVariants.{Bias, Plot}
 use Rattle.admission_log.specs.Histories.{History}
 use Rattle.admission_log.specs.Entries.{plot_entry, entries_in, entries_of}
 use Rattle.admission_log.specs.EntryOrder.{entry_cmp}
-use Rattle.admission_log.specs.Biases.{is_change, last_change, bias_or, bias_at, IsChange, IsLastChange, HoldsAt}
-use Rattle.admission_log.proofs.Greatest.{Has, has_left, has_right, has_either, has_filtered, passes_filtered, greatest_is}
+use Rattle.admission_log.specs.Biases.{is_change, bias_or, bias_at, IsChange, IsLastChange, HoldsAt}
+use Rattle.admission_log.proofs.Greatest.{Has, has_right, has_either, has_filtered, passes_filtered, greatest_is}
 
 -- ---- changes as entries and as events
 
@@ -107,9 +107,9 @@ no_later : (s i s' i' r : ℕ) (b b' : biases.Bias) → is_lt (entry_cmp (Bias s
 no_later s i s' i' r b b' h = elim (not_less (nat_cmp s s') _ (s < s') (s ≡ s') (s' < s) (ranked s s' (nat_cmp s s') refl) h) [
   | inl later ↦ inl later
   | inr tied ↦ elim (not_less (nat_cmp i i') _ (i < i') (i ≡ i') (i' < i) (ranked i i' (nat_cmp i i') refl) tied.1) [
-      | inl after ↦ inr (sym tied.0, omega (arith, after))
-      | inr same ↦ inr (sym tied.0, omega (arith, same.0))
-    ]
+    | inl after ↦ inr (sym tied.0, omega (arith, after))
+    | inr same ↦ inr (sym tied.0, omega (arith, same.0))
+  ]
 ]
 
 -- ---- the law

@@ -1,8 +1,6 @@
 -- Messages judged one after the other, which is the one way to judge each under the arrival that follows those before it.
-use Rattle.std.proofs.Common.{◌≡◌, ◌∙◌, ap, sym, subst, refl, ℕ, zero, suc, ◌+◌, List, [], ◌∷◌, ◌++◌, length, map, take, Option, Some, Result, Ok, Err, arith, length-append}
+use Rattle.std.proofs.Common.{◌≡◌, ◌∙◌, ap, sym, subst, refl, ℕ, zero, suc, ◌+◌, List, [], ◌∷◌, ◌++◌, length, take, Some, Result, Ok, Err, arith}
 use Rattle.std.specs.Prelude.{slice_get}
-use Rattle.std.specs.List.{filter_map}
-use Rattle.std.proofs.lemmas.List.Elements.{filter_map-append}
 use Rattle.std.proofs.lemmas.Option.{none-some, same_Some}
 use Rattle.asterix_frame.specs.Datagrams.{Content}
 use Rattle.admission_log.specs.declared.settings.Settings.{Settings}
@@ -10,7 +8,7 @@ use Rattle.admission_log.specs.declared.events.Admitted.{Admitted}
 use Rattle.admission_log.specs.declared.events.Outcome.{Outcome}
 use Rattle.admission_log.specs.declared.events.Event.{Event}
 use Rattle.admission_log.specs.Messages.{Message, messages_of, other_count}
-use Rattle.admission_log.specs.Deliveries.{judged_message, admitted_by, admitted_count, AreJudged, delivered, IsDelivery}
+use Rattle.admission_log.specs.Deliveries.{judged_message, admitted_count, AreJudged, delivered, IsDelivery}
 
 -- the arrival that comes next
 abbrev pub next_after : ℕ → Result Admitted Outcome → ℕ

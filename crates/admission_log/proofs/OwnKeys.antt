@@ -1,7 +1,6 @@
 -- No two entries of a legal log have one key: changes differ by the index of their events, plots by their arrival.
-use Rattle.std.proofs.Common.{◌≡◌, ◌≢◌, ◌∙◌, ap, sym, subst, refl, ℕ, zero, suc, ◌+◌, ◌<◌, ◌≤◌, List, [], ◌∷◌, ◌++◌, length, map, arith}
+use Rattle.std.proofs.Common.{◌≡◌, ◌≢◌, ap, sym, subst, ℕ, zero, suc, ◌+◌, ◌<◌, ◌≤◌, List, [], ◌∷◌, ◌++◌, length, map, arith}
 use Rattle.std.specs.List.{AllByRecursion, range_with_len}
-use Rattle.trk_base.specs.declared.keys.Key.{Key}
 use Rattle.admission_log.specs.declared.settings.Settings.{Settings}
 use Rattle.admission_log.specs.declared.events.Admitted.{Admitted}
 use Rattle.admission_log.specs.declared.events.Event.{Event}
@@ -113,8 +112,8 @@ own_grown settings before e fits h =
     let arrivals : n + length (admitted_in e) ≡ next_of (appended before e) = sym (next-grown before e) in
     record {
       old = subst (AreOld (length (appended before e).events) (next_of (appended before e))) (sym grown)
-        (all_still (k + 1) (n + length (admitted_in e)) (length (appended before e).events) (next_of (appended before e)) (entries_of before ++ entries_in k e) (omega (arith, count)) (omega (arith, arrivals))
-        (all_more (IsOld (k + 1) (n + length (admitted_in e))) (entries_of before) (entries_in k e) (all_still k n (k + 1) (n + length (admitted_in e)) (entries_of before) (omega arith) (omega arith) h.old) next.old));
+          (all_still (k + 1) (n + length (admitted_in e)) (length (appended before e).events) (next_of (appended before e)) (entries_of before ++ entries_in k e) (omega (arith, count)) (omega (arith, arrivals))
+          (all_more (IsOld (k + 1) (n + length (admitted_in e))) (entries_of before) (entries_in k e) (all_still k n (k + 1) (n + length (admitted_in e)) (entries_of before) (omega arith) (omega arith) h.old) next.old));
       own = subst HaveOwnKeys (sym grown) (own_more k n (entries_of before) (entries_in k e) h.old h.own next.new next.own);
     }
 

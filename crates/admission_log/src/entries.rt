@@ -54,7 +54,10 @@ impl Entry {
         match (self, other) {
             (
                 Entry::Bias {
-                    place, radar, bias, ..
+                    place,
+                    radar,
+                    bias,
+                    ..
                 },
                 Entry::Bias {
                     place: other_place,

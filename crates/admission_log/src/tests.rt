@@ -308,16 +308,26 @@ fn takes_ticks_editions_and_biases(rt: HostRuntime) -> Result<(), Fail> {
     );
     assert_eq!(rt;
         log.bias(&settings, 0, 71_969, range_bias(2)),
-        Err(BiasError::BeforeHorizon { slot: 71_969, low: 71_970 })
+        Err(BiasError::BeforeHorizon {
+            slot: 71_969,
+            low: 71_970
+        })
     );
     assert_eq!(rt; log.bias(&settings, 0, 71_970, range_bias(2))?, 2);
-    assert_eq!(rt; (log.start(), log.last(), log.next()), (START, 4_608_128, 0));
+    assert_eq!(rt;
+        (log.start(), log.last(), log.next()),
+        (START, 4_608_128, 0)
+    );
     assert_eq!(rt; (log.published(), log.cut()), (1, 1));
     crosses_threads(&log);
     let want = vec![in alloc;
         Event::Tick(4_608_128),
         Event::Publish { number: 1, cut: 1 },
-        Event::Bias { radar: 0, slot: 71_970, bias: range_bias(2) },
+        Event::Bias {
+            radar: 0,
+            slot: 71_970,
+            bias: range_bias(2)
+        },
     ]?;
     let got = Sequence::of(log.into_events());
     assert!(rt; got.copy(alloc)?.into_vec() == want);

@@ -11,9 +11,8 @@ loop-event-preserved c =
     let e = c.event-item.result in
     let within : i ≤ length es = omega (arith, c.loop-event-test.true) in
     let index : c.loop-event.index ≡ length (take i es) = c.loop-event.invariant.0 ∙ sym (length-take-le i es within) in
-    let grown : take i es ++ e ∷ [] ≡ take (i + 1) es = ap (λ x. take i es ++ x ∷ []) c.event-item.is ∙ sym (take_more es i e c.loop-event-test.true) in
-    (
+    let grown : take i es ++ e ∷ [] ≡ take (i + 1) es = ap (λ x. take i es ++ x ∷ []) c.event-item.is ∙ sym (take_more es i e c.loop-event-test.true) in (
       omega (arith, c.loop-event.invariant.0),
       c.in_ok-append_change.ensures ∙ ap (λ k. c.loop-event.changes.items ++ changes_in k e) index ∙ ap (λ t. t ++ changes_in (length (take i es)) e) c.loop-event.invariant.1
-      ∙ sym (flat_map-more changes_in (take i es) e) ∙ ap changes_of grown,
+          ∙ sym (flat_map-more changes_in (take i es) e) ∙ ap changes_of grown,
     )

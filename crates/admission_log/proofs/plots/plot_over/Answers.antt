@@ -2,11 +2,9 @@ use Rattle.std.proofs.Common.{rules, ◌≡◌, ◌∙◌, ◌<◌, ap, subst, r
 use Rattle.std.specs.Prelude.{slice_get}
 use Rattle.std.proofs.lemmas.Option.{slice_get_read}
 use Rattle.trk_base.specs.Numbers.{slot_of}
-use Rattle.plot_geometry.specs.declared.biases.Bias.{Bias}
 use Rattle.plot_geometry.specs.declared.radars.RadarSettings.{RadarSettings}
 use Rattle.plot_geometry.specs.Biases.{bias_of, biased}
 use Rattle.plot_geometry.specs.PlanePlots.{plane_plot}
-use Rattle.admission_log.specs.Entries.{key_of}
 use Rattle.admission_log.specs.Biases.{bias_among}
 use Rattle.admission_log.specs.Plots.{is_over}
 use Rattle.admission_log.proofs.Changing.{over_is}
