@@ -1,13 +1,13 @@
 -- The least pairing of one plot is its first nearest track.
-use Rattle.std.proofs.Common.{◌≡◌, ◌≤◌, ◌<◌, ◌⊎◌, inl, inr, ℕ, zero, suc, ◌+◌, List, [], ◌∷◌, length, get_or, map, replicate, is_some, Option, Some, None, arith, refl, sym, ◌∙◌, ap, subst, ℤ, pos, ◌+ℤ◌, ◌≤ℤ◌}
-use Rattle.std.specs.List.{All, range_with_len}
+use Rattle.std.proofs.Common.{◌≡◌, ◌≤◌, ◌<◌, ◌⊎◌, inl, inr, ℕ, zero, suc, ◌+◌, List, [], ◌∷◌, length, map, replicate, is_some, Option, Some, None, arith, refl, sym, ◌∙◌, ap, subst, ℤ, pos, ◌+ℤ◌, ◌≤ℤ◌}
+use Rattle.std.specs.List.{range_with_len}
 use Rattle.std.specs.Option.{IfSome}
 use Rattle.std.proofs.lemmas.Bool.{cases_eq}
 use Rattle.std.proofs.lemmas.Int.{ints}
 use Rattle.std.proofs.lemmas.List.{length-replicate}
 use Rattle.std.proofs.lemmas.List.Elements.{All-cons, All-nil, All-replicate, All-from_get_or}
 use Rattle.trk_base.specs.Limits.{miss_cost}
-use Rattle.assignment_dual.specs.Pairings.{Row, paired_cost, Once, Gates, IsPairing, entry_cost, cost, EntryBefore, NotAfter, ComesFirst, IsLeast}
+use Rattle.assignment_dual.specs.Pairings.{Row, paired_cost, Once, Gates, IsPairing, entry_cost, cost, EntryBefore, ComesFirst, IsLeast}
 use Rattle.assignment_dual.specs.Problems.{Edge, Problem, IsProblem, EdgeBefore, edge_at, row_of, rows_of, price_at, total, Proves, IsSolvedBy}
 use Rattle.assignment_dual.specs.Single.{IsNearest}
 use Rattle.assignment_dual.proofs.Building.{row_found}

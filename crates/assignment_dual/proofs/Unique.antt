@@ -1,6 +1,6 @@
 -- There is one least pairing, and batches whose rows agree have the same.
 use Rattle.std.proofs.Common.{◌≡◌, ◌<◌, ◌∙◌, ap, sym, refl, ℕ, suc, List, [], ◌∷◌, length, Option, Some, None, is_some, arith, subst, inl, inr}
-use Rattle.assignment_dual.specs.Pairings.{Row, paired_cost, AllGate, IsPairing, cost, EntryBefore, NotAfter, ComesFirst, IsLeast}
+use Rattle.assignment_dual.specs.Pairings.{Row, paired_cost, AllGate, cost, EntryBefore, NotAfter, ComesFirst, IsLeast}
 use Rattle.assignment_dual.specs.Rests.{row_at}
 use Rattle.assignment_dual.specs.Problems.{Problem, IsProblem, rows_of}
 use Rattle.assignment_dual.specs.Least.{least_pairing, AreAlike}

@@ -1,4 +1,4 @@
-//! One vertex more gets its place.
+// One vertex more gets its place.
 
 ghost use Rattle.std.specs.Prelude.{◌≡◌, ◌≤◌, ◌<◌, ℕ, ◌+◌, length, get_or, true, false, Bool, List, OnOk};
 ghost use Rattle.trk_base.specs.Limits.{miss_cost};
@@ -11,7 +11,7 @@ use crate::raise::{least_slack, shift};
 use crate::search::{Node, reach};
 use trk_base::NoMemory;
 
-/// Forgets what a search has seen.
+// Forgets what a search has seen.
 fn forget(seen: &mut [bool], tree: &[Node])
     requires within { (i : ℕ) → i < length tree.now → vertex_at tree.now i < length seen.old }
     requires known { (y : ℕ) → get_or seen.old y false ≡ true → (i : ℕ) × (i < length tree.now) × (vertex_at tree.now i ≡ y) }

@@ -1,3 +1,4 @@
+// Assignment problems, and what their solution tells.
 use std::alloc::Global;
 use std::marker::Model;
 use trk_base::{NoMemory, Sequence, TryCopy};

@@ -1,4 +1,4 @@
-//! A vertex is taken out, or comes back.
+// A vertex is taken out, or comes back.
 
 ghost use Rattle.std.specs.Prelude.{◌≡◌, ◌≢◌, ◌<◌, ◌+◌, length, get_or, true, false, slice_set, sum, OnOk};
 ghost use Rattle.assignment_dual.specs.declared.graph.Graph.{Graph};

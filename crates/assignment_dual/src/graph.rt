@@ -1,4 +1,4 @@
-//! Plots and tracks as vertices, with the arcs between them.
+// Plots and tracks as vertices, with the arcs between them.
 
 /// One way along an edge.
 #[derive(Clone, Copy, PartialEq, Eq, PartialOrd, Ord)]

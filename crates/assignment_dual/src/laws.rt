@@ -1,4 +1,4 @@
-//! Laws of pairings.
+// Laws of pairings.
 
 ghost use Rattle.std.specs.Prelude.{◌≡◌, ◌≤◌, ◌<◌, ℕ, ℤ, List, Option, None, Bool, true, false, length};
 ghost use Rattle.std.specs.List.Sorted.{IsStrictlyIncreasing};

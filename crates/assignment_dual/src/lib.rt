@@ -1,10 +1,11 @@
 //! The least pairing of a batch's plots with tracks, and prices that prove it least.
 //!
 //! A pairing costs the gate of each plot that gets a track, and 4,097 for each that gets none.
-//! The least pairing is an optimum of the assignment problem: it is found by shortest augmenting
-//! paths, a vertex at a time, with the dual prices of Kuhn and Munkres, after Jonker and Volgenant
-//! ("A shortest augmenting path algorithm for dense and sparse linear assignment problems",
-//! Computing 38, 1987).
+//! The least pairing is an optimum of the assignment problem. It is found by the Hungarian method
+//! (Kuhn, "The Hungarian method for the assignment problem", 1955; Munkres 1957) on an alternating
+//! tree of tight edges that is grown vertex by vertex: each vertex in turn is matched along an
+//! augmenting path, and where there is none yet, the dual prices rise until another edge is tight.
+//! One plot, as nearly every component has, is solved in closed form.
 //!
 //! Plots and tracks are vertices alike: each pays 4,097 by itself, or shares with a mate the cost
 //! of their edge and 4,097. So prices have no sign until they are read, a track that stays free

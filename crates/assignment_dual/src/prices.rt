@@ -1,4 +1,4 @@
-//! The prices of all vertices.
+// The prices of all vertices.
 
 ghost use Rattle.std.specs.Prelude.{◌≡◌, ◌≤◌, ◌<◌, ◌*◌, ℕ, ◌^◌, length, get_or, slice_set, sum};
 ghost use Rattle.trk_base.specs.Limits.{miss_cost};
@@ -79,7 +79,7 @@ impl Prices {
     }
 }
 
-/// The sum of these prices.
+// The sum of these prices.
 fn sum_of(prices: &[u32]) -> u64
     requires few { length prices.now < 2 ^ 40 }
     requires small { (v : ℕ) → get_or prices.now v 0 ≤ miss_cost }

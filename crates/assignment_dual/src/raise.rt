@@ -1,4 +1,4 @@
-//! Prices rise until a new arc is tight.
+// Prices rise until a new arc is tight.
 
 ghost use Rattle.std.specs.Prelude.{◌≡◌, ◌≢◌, ◌≤◌, ◌<◌, ℕ, ◌+◌, length, get_or, true, false, Bool, List};
 ghost use Rattle.assignment_dual.specs.Vertices.{IsGraph, IsDualFeasible, AreMatched, HasArc, to_of, cost_at};
@@ -10,7 +10,7 @@ use crate::prices::Prices;
 use crate::search::{Node, mate_of, slack};
 use trk_base::MISS_COST;
 
-/// How far the price of x may rise.
+// How far the price of x may rise.
 fn vertex_slack(graph: &Graph, prices: &Prices, seen: &[bool], x: usize) -> u32
     requires graph { IsGraph graph.now (length prices.now) }
     requires priced { IsDualFeasible graph.now (length prices.now) prices.now }
@@ -31,7 +31,7 @@ fn vertex_slack(graph: &Graph, prices: &Prices, seen: &[bool], x: usize) -> u32
     room
 }
 
-/// How far the price of x may rise for the sake of the arc k.
+// How far the price of x may rise for the sake of the arc k.
 fn arc_slack(graph: &Graph, prices: &Prices, seen: &[bool], x: usize, k: usize) -> u32
     requires graph { IsGraph graph.now (length prices.now) }
     requires priced { IsDualFeasible graph.now (length prices.now) prices.now }
@@ -78,7 +78,7 @@ pub fn least_slack(
     least
 }
 
-/// Lets the mates of all nodes rise by `by`.
+// Lets the mates of all nodes rise by `by`.
 fn raise_mates(prices: &mut Prices, mates: &[usize], tree: &[Node], by: u32)
     requires { MayShift prices.old mates.now tree.now by }
     ensures { AreRaised prices.old prices.new (mate_at mates.now tree.now) 0 (length tree.now) by }
@@ -89,7 +89,7 @@ fn raise_mates(prices: &mut Prices, mates: &[usize], tree: &[Node], by: u32)
     }
 }
 
-/// Lets the vertices of all nodes but the root fall by `by`.
+// Lets the vertices of all nodes but the root fall by `by`.
 fn lower_vertices(prices: &mut Prices, tree: &[Node], by: u32)
     requires some { 0 < length tree.now }
     requires vertices { (i : ℕ) → i < length tree.now → vertex_at tree.now i < length prices.old }

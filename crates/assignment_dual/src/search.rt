@@ -1,4 +1,4 @@
-//! A tree of tight arcs is searched for a place for its root.
+// A tree of tight arcs is searched for a place for its root.
 
 ghost use Rattle.std.specs.Prelude.{◌≡◌, ◌≢◌, ◌≤◌, ◌<◌, ℕ, ◌+◌, length, get_or, true, false, Bool, List, MatchBool, MatchOption, IfOk, OnOk};
 ghost use Rattle.trk_base.specs.Limits.{miss_cost};
@@ -44,7 +44,7 @@ pub fn slack(graph: &Graph, prices: &Prices, x: usize, k: usize) -> (usize, u32)
     )
 }
 
-/// Where the arc k of x leads, if it is tight and leads to a vertex that isn't seen.
+// Where the arc k of x leads, if it is tight and leads to a vertex that isn't seen.
 fn opens(graph: &Graph, prices: &Prices, seen: &[bool], x: usize, k: usize) -> Option<usize>
     requires graph { IsGraph graph.now (length prices.now) }
     requires priced { IsDualFeasible graph.now (length prices.now) prices.now }
@@ -62,8 +62,8 @@ fn opens(graph: &Graph, prices: &Prices, seen: &[bool], x: usize, k: usize) -> O
     None
 }
 
-/// Takes in what the tight arcs of the mate of the node `at` lead to, up to a vertex that is
-/// alone. Its node is answered.
+// Takes in what the tight arcs of the mate of the node `at` lead to, up to a vertex that is
+// alone. Its node is answered.
 fn sweep(
     graph: &Graph,
     prices: &Prices,
@@ -106,8 +106,8 @@ fn sweep(
     Ok(None)
 }
 
-/// Lets the tree grow until there is a place for its root: a node that is alone, or one whose mate
-/// may stay alone. It goes over all nodes, since the prices may have changed.
+// Lets the tree grow until there is a place for its root: a node that is alone, or one whose mate
+// may stay alone. It goes over all nodes, since the prices may have changed.
 fn grow(
     graph: &Graph,
     prices: &Prices,
@@ -154,7 +154,7 @@ pub fn unmatch(mates: &mut [usize], x: usize) -> usize
     y
 }
 
-/// Makes x and y mates; y's mate, which is answered, stays alone.
+// Makes x and y mates; y's mate, which is answered, stays alone.
 fn take(mates: &mut [usize], x: usize, y: usize) -> usize
     requires x { x < length mates.old }
     requires y { y < length mates.old }

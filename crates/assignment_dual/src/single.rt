@@ -1,4 +1,4 @@
-//! The least pairing of one plot, in closed form. Nearly every component of a batch has one plot.
+// The least pairing of one plot, in closed form. Nearly every component of a batch has one plot.
 
 ghost use Rattle.std.specs.Prelude.{◌≡◌, length, IfOk};
 ghost use Rattle.assignment_dual.specs.Problems.{IsSolvedBy};
@@ -8,7 +8,7 @@ use crate::{Costs, Solved};
 use std::alloc::Global;
 use trk_base::{MISS_COST, NoMemory, Sequence};
 
-/// The first of the tracks that cost least, or none, and what it costs.
+// The first of the tracks that cost least, or none, and what it costs.
 fn nearest(costs: &Costs) -> (Option<u32>, u32)
     requires { costs.now.plots ≡ 1 }
     ensures { IsNearest costs.now.edges (length costs.now.edges) result.0 result.1 }

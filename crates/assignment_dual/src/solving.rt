@@ -1,4 +1,4 @@
-//! The least pairing, with its cost and its prices.
+// The least pairing, with its cost and its prices.
 
 ghost use Rattle.std.specs.Prelude.{◌≡◌, ◌≤◌, ◌<◌, ◌^◌, ◌+◌, ◌*◌, ℕ, Bool, false, pos, ◌-ℤ◌, length, get_or, map, sum, IfOk, IfSome};
 ghost use Rattle.std.specs.List.{All};
@@ -20,7 +20,7 @@ use crate::{Costs, Solved};
 use std::alloc::Global;
 use trk_base::{MISS_COST, NoMemory, Sequence};
 
-/// The first prices: the plots stand out at 0, and the tracks pay for being alone.
+// The first prices: the plots stand out at 0, and the tracks pay for being alone.
 fn first_prices(alloc: Global, plots: usize, count: usize) -> Result<Vec<u32>, NoMemory>
     ensures count { IfOk result (λ prices. length prices.items ≡ count) }
     ensures plots { IfOk result (λ prices. (v : ℕ) → v < plots → get_or prices.items v 0 ≡ 0) }
@@ -33,7 +33,7 @@ fn first_prices(alloc: Global, plots: usize, count: usize) -> Result<Vec<u32>, N
     Ok(prices)
 }
 
-/// At first everyone is alone.
+// At first everyone is alone.
 fn first_mates(alloc: Global, count: usize) -> Result<Vec<usize>, NoMemory>
     ensures count { IfOk result (λ mates. length mates.items ≡ count) }
     ensures alone { IfOk result (λ mates. (v : ℕ) → v < count → get_or mates.items v 0 ≡ v) }
@@ -45,7 +45,7 @@ fn first_mates(alloc: Global, count: usize) -> Result<Vec<usize>, NoMemory>
     Ok(mates)
 }
 
-/// The prices u of the plots.
+// The prices u of the plots.
 fn plot_prices(alloc: Global, prices: &[u32]) -> Result<Vec<i64>, NoMemory>
     ensures { IfOk result (λ us. us.items ≡ map pos prices.now) }
 {
@@ -56,7 +56,7 @@ fn plot_prices(alloc: Global, prices: &[u32]) -> Result<Vec<i64>, NoMemory>
     Ok(us)
 }
 
-/// The prices v of the tracks.
+// The prices v of the tracks.
 fn track_prices(alloc: Global, prices: &[u32]) -> Result<Vec<i64>, NoMemory>
     ensures { IfOk result (λ vs. vs.items ≡ map (λ q. pos q -ℤ pos miss_cost) prices.now) }
 {
@@ -67,7 +67,7 @@ fn track_prices(alloc: Global, prices: &[u32]) -> Result<Vec<i64>, NoMemory>
     Ok(vs)
 }
 
-/// The cost that these prices prove: all of them, without what each track would pay alone.
+// The cost that these prices prove: all of them, without what each track would pay alone.
 fn proven_cost(prices: &Prices, tracks: usize) -> i64
     requires { tracks < 2 ^ 32 }
     ensures { result ≡ pos (sum prices.now) -ℤ pos (miss_cost * tracks) }
@@ -76,8 +76,8 @@ fn proven_cost(prices: &Prices, tracks: usize) -> i64
     prices.sum() as i64 - alone as i64
 }
 
-/// The answer: the vertices get their places, their prices are read, and then the first of the
-/// pairings that cost least.
+// The answer: the vertices get their places, their prices are read, and then the first of the
+// pairings that cost least.
 fn answer(
     alloc: Global,
     graph: &Graph,
@@ -129,7 +129,7 @@ pub fn solve(alloc: Global, costs: &Costs) -> Result<Solved, NoMemory>
     solve_many(alloc, costs)
 }
 
-/// The same, for any number of plots.
+// The same, for any number of plots.
 fn solve_many(alloc: Global, costs: &Costs) -> Result<Solved, NoMemory>
     ensures { IfOk result (λ s. IsSolvedBy costs.now s.pairing s.u s.v s.cost) }
 {

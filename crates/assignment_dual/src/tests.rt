@@ -1,3 +1,4 @@
+// Pairings of small problems, against all pairings.
 ghost use Rattle.std.specs.Prelude.{◌≡◌, ◌+◌, ℕ, length, [], IsTrue};
 ghost use Rattle.assignment_dual.specs.Problems.{EdgeBefore, edge_at};
 
@@ -8,7 +9,7 @@ use std::alloc::Global;
 use std::test::Fail;
 use trk_base::{NoMemory, Sequence, TryCopy};
 
-/// A problem without edges.
+// A problem without edges.
 fn bare(alloc: Global, plots: u32, tracks: u32) -> Costs
     ensures plots { result.plots ≡ plots }
     ensures tracks { result.tracks ≡ tracks }
@@ -21,7 +22,7 @@ fn bare(alloc: Global, plots: u32, tracks: u32) -> Costs
     }
 }
 
-/// Whether an edge comes after all others.
+// Whether an edge comes after all others.
 fn is_after(edges: &[(u32, u32, u16)], edge: (u32, u32, u16)) -> bool
     ensures { IsTrue result → (i : ℕ) → i + 1 ≡ length edges.now → EdgeBefore (edge_at edges.now i) edge }
 {
@@ -32,7 +33,7 @@ fn is_after(edges: &[(u32, u32, u16)], edge: (u32, u32, u16)) -> bool
     plot < edge.0 || plot == edge.0 && track < edge.1
 }
 
-/// The problem with one more edge after the others, if that is its place.
+// The problem with one more edge after the others, if that is its place.
 fn with_edge(mut costs: Costs, edge: (u32, u32, u16)) -> Result<Costs, NoMemory> {
     if edge.0 >= costs.plots || edge.1 >= costs.tracks || edge.2 > 4096 {
         return Ok(costs);
@@ -43,7 +44,7 @@ fn with_edge(mut costs: Costs, edge: (u32, u32, u16)) -> Result<Costs, NoMemory>
     Ok(costs)
 }
 
-/// The answer, where there is memory.
+// The answer, where there is memory.
 fn solved(alloc: Global, costs: &Costs) -> Result<Solved, Fail> {
     Ok(solve(alloc, costs).map_err(|_| "no memory")?)
 }
@@ -89,7 +90,7 @@ fn pairs_one_plot(rt: HostRuntime) -> Result<(), Fail> {
     Ok(())
 }
 
-/// A small problem: what each of four tracks costs at each of five plots, if it gates it.
+// A small problem: what each of four tracks costs at each of five plots, if it gates it.
 fn small(alloc: Global, draw: &mut Pcg32, round: u32) -> Result<(Costs, Vec<Option<u16>>), Fail> {
     let mut costs = bare(alloc, 5, 4);
     let mut gates = Vec::new(alloc);
@@ -112,7 +113,7 @@ fn small(alloc: Global, draw: &mut Pcg32, round: u32) -> Result<(Costs, Vec<Opti
     Ok((costs, gates))
 }
 
-/// The entries that a number spells, the first one by its highest digit: 4 is none.
+// The entries that a number spells, the first one by its highest digit: 4 is none.
 fn entries(alloc: Global, code: u32) -> Result<Vec<Option<u32>>, Fail> {
     let mut entries = Vec::new(alloc);
     for unit in [625, 125, 25, 5, 1] {
@@ -122,7 +123,7 @@ fn entries(alloc: Global, code: u32) -> Result<Vec<Option<u32>>, Fail> {
     Ok(entries)
 }
 
-/// What these entries cost, if they are a pairing.
+// What these entries cost, if they are a pairing.
 fn cost_of(gates: &[Option<u16>], entries: &[Option<u32>]) -> Option<u32> {
     let mut cost: u32 = 0;
     for (plot, entry) in entries.iter().enumerate() {

@@ -1,4 +1,4 @@
-//! Of all pairings of least cost the first one, plot by plot.
+// Of all pairings of least cost the first one, plot by plot.
 
 ghost use Rattle.std.specs.Prelude.{◌≡◌, ◌≢◌, ◌≤◌, ◌<◌, ◌↔◌, ℕ, ◌+◌, ◌^◌, ◌∷◌, [], length, vec_len, get_or, true, false, Bool, List, IsTrue, MatchBool, OnOk, IfOk};
 ghost use Rattle.trk_base.specs.Limits.{miss_cost};
@@ -15,7 +15,7 @@ use crate::search::{Node, slack};
 use std::alloc::Global;
 use trk_base::{MISS_COST, NoMemory};
 
-/// Whether the arc k of p is tight, and its track isn't gone.
+// Whether the arc k of p is tight, and its track isn't gone.
 fn is_candidate(graph: &Graph, prices: &Prices, gone: &[bool], p: usize, k: usize) -> bool
     requires graph { IsGraph graph.now (length prices.now) }
     requires priced { IsDualFeasible graph.now (length prices.now) prices.now }
@@ -28,7 +28,7 @@ fn is_candidate(graph: &Graph, prices: &Prices, gone: &[bool], p: usize, k: usiz
     slack == 0 && !gone[t]
 }
 
-/// The arcs of the plot p that are tight, to tracks that aren't gone, in their order.
+// The arcs of the plot p that are tight, to tracks that aren't gone, in their order.
 fn candidates(
     graph: &Graph,
     prices: &Prices,
@@ -51,7 +51,7 @@ fn candidates(
     Ok(())
 }
 
-/// Whether the first candidate of the plot p leads to the mate that it has.
+// Whether the first candidate of the plot p leads to the mate that it has.
 fn mate_is_first(graph: &Graph, mates: &[usize], tight: &[usize], p: usize) -> bool
     requires arc { 0 < length tight.now → get_or tight.now 0 0 < vec_len graph.now.arcs }
     requires p { p < length mates.now }
@@ -60,9 +60,9 @@ fn mate_is_first(graph: &Graph, mates: &[usize], tight: &[usize], p: usize) -> b
     !tight.is_empty() && graph.arcs[tight[0]].to == mates[p]
 }
 
-/// Fixes the plot p by its entry in the first of the pairings that cost least: the track of the
-/// first candidate with which the least cost stays what it was, or none. With the mate that p has
-/// it does, so no other place is searched where that is the first one.
+// Fixes the plot p by its entry in the first of the pairings that cost least: the track of the
+// first candidate with which the least cost stays what it was, or none. With the mate that p has
+// it does, so no other place is searched where that is the first one.
 fn fix_plot(
     graph: &Graph,
     prices: &mut Prices,

@@ -1,4 +1,4 @@
-//! Components, put together of the least plots that their plots are connected with.
+// Components, put together of the least plots that their plots are connected with.
 ghost use Rattle.std.specs.Prelude.{◌≡◌, ◌<◌, ◌≤◌, ◌^◌, ◌∷◌, ◌++◌, ℕ, List, [], All, IfOk, OnOk, length, vec_len, slice_index_or, slice_set};
 ghost use Rattle.std.specs.List.Sorted.{IsNonDecreasingBy};
 ghost use Rattle.cluster_split.specs.Grouping.{AreLabelled, AreIndices, AreGrouped, components_of, no_component, with_plot, with_track};
@@ -7,7 +7,7 @@ use crate::Component;
 use std::alloc::Global;
 use trk_base::{NoMemory, Sequence};
 
-/// A new component at the end, and its place.
+// A new component at the end, and its place.
 fn add_component(alloc: Global, parts: &mut Vec<Component>) -> Result<u32, NoMemory>
     requires { vec_len parts.old < 2 ^ 32 }
     ensures place { IfOk result (λ place. place ≡ vec_len parts.old) }
@@ -21,7 +21,7 @@ fn add_component(alloc: Global, parts: &mut Vec<Component>) -> Result<u32, NoMem
     Ok(place)
 }
 
-/// Puts a plot at the end of the component at `place`.
+// Puts a plot at the end of the component at `place`.
 fn put_plot(parts: &mut Vec<Component>, place: u32, plot: u32) -> Result<(), NoMemory>
     requires { place < vec_len parts.old }
     ensures { OnOk result (parts.new.items ≡ slice_set parts.old.items place (with_plot plot (slice_index_or parts.old.items place no_component))) }
@@ -29,7 +29,7 @@ fn put_plot(parts: &mut Vec<Component>, place: u32, plot: u32) -> Result<(), NoM
     parts[place as usize].plots.push(plot)
 }
 
-/// Puts a track at the end of the component at `place`.
+// Puts a track at the end of the component at `place`.
 fn put_track(parts: &mut Vec<Component>, place: u32, track: u32) -> Result<(), NoMemory>
     requires { place < vec_len parts.old }
     ensures { OnOk result (parts.new.items ≡ slice_set parts.old.items place (with_track track (slice_index_or parts.old.items place no_component))) }
@@ -37,7 +37,7 @@ fn put_track(parts: &mut Vec<Component>, place: u32, track: u32) -> Result<(), N
     parts[place as usize].tracks.push(track)
 }
 
-/// The components with their plots alone, and for each plot the place of its component.
+// The components with their plots alone, and for each plot the place of its component.
 pub(crate) fn components_of_plots(
     alloc: Global,
     least: &[u32],
@@ -60,7 +60,7 @@ pub(crate) fn components_of_plots(
     Ok((parts, places))
 }
 
-/// Puts each track into the component of its plots. The edges stand by track.
+// Puts each track into the component of its plots. The edges stand by track.
 pub(crate) fn add_tracks(
     parts: &mut Vec<Component>,
     places: &[u32],

@@ -1,5 +1,5 @@
-//! Disjoint sets of plots. Below each plot stands another of its set, or itself where it is the
-//! least one of the set.
+// Disjoint sets of plots. Below each plot stands another of its set, or itself where it is the
+// least one of the set.
 ghost use Rattle.std.specs.Prelude.{◌≡◌, ◌<◌, ◌≤◌, ℕ, All, IfOk, length, slice_index};
 ghost use Rattle.std.specs.List.Sorted.{IsNonDecreasingBy};
 ghost use Rattle.cluster_split.specs.Leasts.{Falls, IsLabelled, merged, HasLabels, AreLeasts};
@@ -7,7 +7,7 @@ ghost use Rattle.cluster_split.specs.Leasts.{Falls, IsLabelled, merged, HasLabel
 use std::alloc::Global;
 use trk_base::NoMemory;
 
-/// The least plot of a plot's set. Each step of the way is made to skip the next one.
+// The least plot of a plot's set. Each step of the way is made to skip the next one.
 fn least_of(lower: &mut [u32], plot: u32) -> u32
     requires falls { Falls lower.old }
     requires inside { plot < length lower.old }
@@ -25,7 +25,7 @@ fn least_of(lower: &mut [u32], plot: u32) -> u32
     at
 }
 
-/// Makes the sets of two plots one.
+// Makes the sets of two plots one.
 fn join(lower: &mut [u32], a: u32, b: u32)
     requires falls { Falls lower.old }
     requires first { a < length lower.old }
@@ -38,7 +38,7 @@ fn join(lower: &mut [u32], a: u32, b: u32)
     lower[first.max(second) as usize] = first.min(second);
 }
 
-/// For each plot the least one that it is connected with, by edges that stand by track.
+// For each plot the least one that it is connected with, by edges that stand by track.
 pub(crate) fn least_plots(
     alloc: Global,
     plots: u32,
@@ -53,7 +53,7 @@ pub(crate) fn least_plots(
     Ok(lower)
 }
 
-/// Each plot as a set of its own.
+// Each plot as a set of its own.
 fn own_sets(alloc: Global, plots: u32) -> Result<Vec<u32>, NoMemory>
     ensures len { IfOk result (λ v. length v.items ≡ plots) }
     ensures own { IfOk result (λ v. (p : ℕ) → p < length v.items → slice_index v.items p ≡ p) }
@@ -65,7 +65,7 @@ fn own_sets(alloc: Global, plots: u32) -> Result<Vec<u32>, NoMemory>
     Ok(sets)
 }
 
-/// From sets of one plot each to the least plot that each plot is connected with.
+// From sets of one plot each to the least plot that each plot is connected with.
 fn label_all(lower: &mut [u32], by_track: &[(u32, u32)])
     requires own { (p : ℕ) → p < length lower.old → slice_index lower.old p ≡ p }
     requires inside { All (λ edge. edge.0 < length lower.old) by_track.now }
@@ -76,7 +76,7 @@ fn label_all(lower: &mut [u32], by_track: &[(u32, u32)])
     flatten(lower);
 }
 
-/// Joins the plots of all edges that have one track.
+// Joins the plots of all edges that have one track.
 fn join_sharing(lower: &mut [u32], by_track: &[(u32, u32)])
     requires falls { Falls lower.old }
     requires inside { All (λ edge. edge.0 < length lower.old) by_track.now }
@@ -91,7 +91,7 @@ fn join_sharing(lower: &mut [u32], by_track: &[(u32, u32)])
     }
 }
 
-/// Puts the least plot of its set below each plot.
+// Puts the least plot of its set below each plot.
 fn flatten(lower: &mut [u32])
     requires falls { Falls lower.old }
     ensures labels { (label : ℕ → ℕ) → IsLabelled lower.old label → (p : ℕ) → p < length lower.new → slice_index lower.new p ≡ label p }

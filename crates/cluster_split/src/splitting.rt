@@ -1,4 +1,4 @@
-//! The connected parts of a gate graph: their plots, found by disjoint sets, and then their tracks.
+// The connected parts of a gate graph: their plots, found by disjoint sets, and then their tracks.
 
 ghost use Rattle.std.specs.Prelude.{◌≡◌, ◌<◌, ℕ, List, All, IfOk};
 ghost use Rattle.std.specs.List.Sorted.{IsNonDecreasingBy, IsPermutation};
@@ -39,7 +39,7 @@ pub fn components(
     Ok(parts)
 }
 
-/// The same edges, by track.
+// The same edges, by track.
 fn by_track(alloc: Global, edges: &[(u32, u32)]) -> Result<Vec<(u32, u32)>, NoMemory>
     ensures same { IfOk result (λ v. IsPermutation edges.now v.items) }
     ensures sorted { IfOk result (λ v. IsNonDecreasingBy (λ edge. edge.1) v.items) }

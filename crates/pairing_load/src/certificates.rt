@@ -12,7 +12,7 @@ use rand_pcg::Pcg32;
 use std::alloc::Global;
 use trk_base::{NoMemory, Sequence};
 
-/// How many plots a certificate has, and how many tracks.
+// How many plots a certificate has, and how many tracks.
 const SIZE: u32 = 3;
 
 /// The next certificate: three plots and three tracks with all nine edges, solved. Its number is its slot, and

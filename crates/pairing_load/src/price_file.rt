@@ -20,12 +20,12 @@ use rand_pcg::Pcg32;
 use std::alloc::Global;
 use trk_base::NoMemory;
 
-/// What the file begins with: `MRP1`, and the record of edition 1, which covers no event.
+// What the file begins with: `MRP1`, and the record of edition 1, which covers no event.
 const HEAD: [u8; 21] = [
     0x4D, 0x52, 0x50, 0x31, 0x01, 0, 0, 0, 0, 0, 0, 0, 1, 0, 0, 0, 0, 0, 0, 0, 0,
 ];
 
-/// The record of the next certificate.
+// The record of the next certificate.
 fn next_record(alloc: Global, number: u32, generator: &mut Pcg32) -> Result<Vec<u8>, NoMemory>
     ensures is { IfOk result (λ v. RecordMade number generator.old v.items) }
     ensures drawn { OnOk result (generator.new ≡ after EdgeCosts.Random 9 generator.old) }
@@ -34,7 +34,7 @@ fn next_record(alloc: Global, number: u32, generator: &mut Pcg32) -> Result<Vec<
     write_cert(alloc, &cert)
 }
 
-/// Writes octets to Output. Where it fails, Output got a prefix of them.
+// Writes octets to Output. Where it fails, Output got a prefix of them.
 fn put<H: Host>(octets: &[u8], host: &mut H) -> Result<(), Status>
     requires { IsBoundFor Way.Write (H.state host.old) Place.Output }
     ensures all { OnOk result (Got Place.Output (H.state host.old) (H.state host.new) octets.now) }

@@ -11,10 +11,10 @@ use trk_base::{NoMemory, Sequence};
 /// The most plots that a problem has.
 pub const SIZE_LIMIT: u32 = 1_000;
 
-/// The stream of the generator of a load.
+// The stream of the generator of a load.
 const STREAM: u64 = 54;
 
-/// What an edge costs where all cost the same.
+// What an edge costs where all cost the same.
 const EQUAL_COST: u16 = 2_048;
 
 /// What the edges of a problem cost.
@@ -33,7 +33,7 @@ pub fn generator_of(seed: u64) -> Pcg32
     Pcg32::new(seed, STREAM)
 }
 
-/// The cost of the next edge.
+// The cost of the next edge.
 fn next_cost(costs: EdgeCosts, generator: &mut Pcg32) -> u16
     ensures cost { result ≡ next_cost costs generator.old }
     ensures range { result ≤ 4096 }

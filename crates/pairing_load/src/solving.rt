@@ -10,7 +10,7 @@ use rand_pcg::Pcg32;
 use std::alloc::{AllocError, Global};
 use trk_base::NoMemory;
 
-/// The least cost of the next problem.
+// The least cost of the next problem.
 fn next_least_cost(
     alloc: Global,
     costs: EdgeCosts,

@@ -1,3 +1,4 @@
+// Loads over a host in memory.
 ghost use Rattle.std.specs.Prelude.{length};
 
 use crate::run::run_load;
@@ -8,7 +9,7 @@ use std::alloc::Global;
 use std::process::Abort;
 use std::test::Fail;
 
-/// Carries out the words over a host with room for so many octets of output and of screen, and these calls that fail.
+// Carries out the words over a host with room for so many octets of output and of screen, and these calls that fail.
 fn run(
     alloc: Global,
     texts: &[&str],
@@ -26,7 +27,7 @@ fn run(
     Ok((status, host))
 }
 
-/// The words are a load of problems, whose line is this.
+// The words are a load of problems, whose line is this.
 fn tells(rt: &impl Abort, alloc: Global, texts: &[&str], line: &str) -> Result<(), Fail> {
     let (status, host) = run(alloc, texts, [0, 64], &[])?;
     assert_eq!(rt; status, Status::Done);
@@ -124,7 +125,7 @@ fn stops_where_a_place_fails(rt: HostRuntime) -> Result<(), Fail> {
     Ok(())
 }
 
-/// The words are no load.
+// The words are no load.
 fn refuses(rt: &impl Abort, alloc: Global, texts: &[&str]) -> Result<(), Fail> {
     let (status, _) = run(alloc, texts, [64, 64], &[])?;
     assert_eq!(rt; status, Status::Usage);

@@ -8,7 +8,7 @@ ghost use Rattle.pairing_load.specs.declared.words.PriceLoad.{PriceLoad};
 
 use crate::problems::{EdgeCosts, SIZE_LIMIT};
 
-/// The most problems or certificates of a load.
+// The most problems or certificates of a load.
 const MAX_COUNT: u64 = 4_294_967_295;
 
 /// Assignment problems that are to be solved.
@@ -33,14 +33,14 @@ pub struct PriceLoad {
     pub seed: u64,
 }
 
-/// Whether a word begins neither with a sign nor with a zero that more octets follow.
+// Whether a word begins neither with a sign nor with a zero that more octets follow.
 fn is_plain(octets: &[u8]) -> bool
     ensures { IsTrue result ↔ IsPlain octets.now }
 {
     !matches!(octets, [b'+', ..] | [b'0', _, ..])
 }
 
-/// The number that a word tells: decimal digits, without a sign and without a leading zero.
+// The number that a word tells: decimal digits, without a sign and without a leading zero.
 fn read_number(word: &str) -> Option<u64>
     ensures told { IfSome result (λ n. word.now ≡ decimal n) }
     ensures fits { IfSome result (λ n. n < 2 ^ 64) }
@@ -53,7 +53,7 @@ fn read_number(word: &str) -> Option<u64>
     }
 }
 
-/// The number that a word tells, below 2^32.
+// The number that a word tells, below 2^32.
 fn read_count(word: &str) -> Option<u32>
     ensures told { IfSome result (λ n. word.now ≡ decimal n) }
     ensures fits { IfSome result (λ n. n < 2 ^ 32) }
@@ -67,7 +67,7 @@ fn read_count(word: &str) -> Option<u32>
     }
 }
 
-/// The number of plots that a word tells.
+// The number of plots that a word tells.
 fn read_size(word: &str) -> Option<u32>
     ensures told { IfSome result (λ n. word.now ≡ decimal n) }
     ensures some { IfSome result (λ n. 1 ≤ n) }
@@ -82,7 +82,7 @@ fn read_size(word: &str) -> Option<u32>
     }
 }
 
-/// The costs that a word names: `random` or `equal`.
+// The costs that a word names: `random` or `equal`.
 fn read_costs(word: &str) -> Option<EdgeCosts>
     ensures told { IfSome result (λ k. word.now ≡ costs_word k) }
     ensures refused { IsNone result → (k : EdgeCosts) → word.now ≢ costs_word k }
@@ -96,7 +96,7 @@ fn read_costs(word: &str) -> Option<EdgeCosts>
     }
 }
 
-/// The problems that words after `pairings` tell.
+// The problems that words after `pairings` tell.
 fn pairings_with(
     count_text: &str,
     size_text: &str,
@@ -128,7 +128,7 @@ pub fn pairings_of(words: &[String]) -> Option<PairingLoad>
     pairings_with(count.as_str(), size.as_str(), costs.as_str(), seed.as_str())
 }
 
-/// The certificates that words after `prices` tell.
+// The certificates that words after `prices` tell.
 fn prices_with(count_text: &str, seed_text: &str) -> Option<PriceLoad>
     ensures load { IfSome result (λ load. TellPrices count_text.now seed_text.now load) }
     ensures other { IsNone result → (load : PriceLoad) → TellPrices count_text.now seed_text.now load → ⊥ }

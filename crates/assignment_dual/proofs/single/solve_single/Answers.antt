@@ -1,4 +1,4 @@
-use Rattle.std.proofs.Common.{◌≡◌, ◌∙◌, ap, pos, [], ◌∷◌, List, ℤ, ℕ, Option, replicate, rules, subst}
+use Rattle.std.proofs.Common.{◌≡◌, ◌∙◌, ap, pos, [], ◌∷◌, replicate, rules, subst}
 use Rattle.assignment_dual.specs.Problems.{Problem, IsProblem}
 use Rattle.assignment_dual.proofs.OnePlot.{single_solved}
 use Rattle.assignment_dual.proofs.single.solve_single.Goals as goal
