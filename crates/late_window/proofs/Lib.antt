@@ -1,0 +1,9 @@
+pub mod Cuts
+pub mod Groups
+pub mod Inserting
+pub mod Latest
+pub mod Lines
+pub mod Lists
+pub mod Marks
+pub mod Orders
+pub mod Stands
