@@ -1,45 +1,35 @@
--- Which places a step may change.
-use Rattle.std.proofs.Common.{◌≡◌, ◌≢◌, ◌⊎◌, ◌≤◌, sym, refl, subst, inl, inr, arith}
-use Rattle.io_traits.specs.Host.{HostState, ChangesOnly, WritesOnly}
+-- What the steps of a command touched.
+use Rattle.std.proofs.Common.{◌≡◌, ℕ, List, [], ◌∷◌, sym, subst, take}
+use Rattle.std.specs.Prelude.{IsTrue, Option}
+use Rattle.std.specs.Io.KnownBytes.{Appends}
+use Rattle.io_traits.specs.Host.{HostState}
+use Rattle.io_traits.specs.Places.{GotPrefix}
+use Rattle.io_traits.specs.Touching.{Touches}
 use Rattle.io_traits.specs.declared.host.Place.{Place}
-use Rattle.io_traits.specs.declared.host.Place.TheVariants as places
+use Rattle.io_traits.proofs.Places.{all_in}
+use Rattle.io_traits.proofs.Touching.{Touches_trans, widened}
 
-pub same_or_not : (p q : Place) → (p ≡ q) ⊎ (p ≢ q)
-same_or_not places.Settings places.Settings = inl refl
-same_or_not places.Settings places.Input = inr (λ e. cc)
-same_or_not places.Settings places.Output = inr (λ e. cc)
-same_or_not places.Settings places.Prices = inr (λ e. cc)
-same_or_not places.Settings places.Screen = inr (λ e. cc)
-same_or_not places.Input places.Settings = inr (λ e. cc)
-same_or_not places.Input places.Input = inl refl
-same_or_not places.Input places.Output = inr (λ e. cc)
-same_or_not places.Input places.Prices = inr (λ e. cc)
-same_or_not places.Input places.Screen = inr (λ e. cc)
-same_or_not places.Output places.Settings = inr (λ e. cc)
-same_or_not places.Output places.Input = inr (λ e. cc)
-same_or_not places.Output places.Output = inl refl
-same_or_not places.Output places.Prices = inr (λ e. cc)
-same_or_not places.Output places.Screen = inr (λ e. cc)
-same_or_not places.Prices places.Settings = inr (λ e. cc)
-same_or_not places.Prices places.Input = inr (λ e. cc)
-same_or_not places.Prices places.Output = inr (λ e. cc)
-same_or_not places.Prices places.Prices = inl refl
-same_or_not places.Prices places.Screen = inr (λ e. cc)
-same_or_not places.Screen places.Settings = inr (λ e. cc)
-same_or_not places.Screen places.Input = inr (λ e. cc)
-same_or_not places.Screen places.Output = inr (λ e. cc)
-same_or_not places.Screen places.Prices = inr (λ e. cc)
-same_or_not places.Screen places.Screen = inl refl
+-- a step that bound a place and read it
+abbrev pub OnlyRead : Place → HostState → HostState → Type 0
+OnlyRead place old new = Touches (place ∷ []) (place ∷ []) [] old new
 
--- no count falls
-pub later_of : (place : Place) (old new : HostState) → ChangesOnly place old new → (p : Place) → old.faults p ≤ new.faults p
-later_of place old new h p = elim (same_or_not p place) [
-  | inl e ↦ subst (λ (q : Place). old.faults q ≤ new.faults q) (sym e) h.later
-  | inr other ↦ omega (arith, h.faults p other)
-]
+-- a step that bound a place
+abbrev pub OnlyBound : Place → HostState → HostState → Type 0
+OnlyBound place old new = Touches (place ∷ []) [] [] old new
 
-pub later_written : (place : Place) (old new : HostState) → WritesOnly place old new → (p : Place) → old.faults p ≤ new.faults p
-later_written place old new h p = elim (same_or_not p place) [
-  | inl e ↦ subst (λ (q : Place). old.faults q ≤ new.faults q) (sym e) h.later
-  | inr other ↦ omega (arith, h.faults p other)
-]
+-- a step that wrote a place
+abbrev pub OnlyWritten : Place → HostState → HostState → Type 0
+OnlyWritten place old new = Touches [] [] (place ∷ []) old new
+
+-- Two steps, one after the other, touched no more than these. Where all lists are told, each premise is `refl`.
+pub one_then : {bs rs ws bs' rs' ws' : List Place} (all reads writes : List Place) (old mid new : HostState) → IsTrue (all_in bs all) → IsTrue (all_in rs reads) → IsTrue (all_in ws writes) → IsTrue (all_in bs' all) → IsTrue (all_in rs' reads) → IsTrue (all_in ws' writes) → Touches bs rs ws old mid → Touches bs' rs' ws' mid new → Touches all reads writes old new
+one_then {bs} {rs} {ws} {bs'} {rs'} {ws'} all reads writes old mid new b r w b' r' w' h k =
+    Touches_trans all reads writes old mid new (widened bs rs ws all reads writes old mid b r w h) (widened bs' rs' ws' all reads writes mid new b' r' w' k)
+
+-- ---- what was got before a step that wrote nothing there, or after one
+
+pub prefix_since : (place : Place) (old mid new : HostState) (octets : List ℕ) → mid.got place ≡ old.got place → GotPrefix place mid new octets → GotPrefix place old new octets
+prefix_since place old mid new octets same h = (h.0, h.1, subst (λ (g : Option (List ℕ)). Appends g (new.got place) (take h.0 octets)) same h.2)
+
+pub prefix_then : (place : Place) (old mid new : HostState) (octets : List ℕ) → new.got place ≡ mid.got place → GotPrefix place old mid octets → GotPrefix place old new octets
+prefix_then place old mid new octets same h = (h.0, h.1, subst (λ (g : Option (List ℕ)). Appends (old.got place) g (take h.0 octets)) (sym same) h.2)

@@ -1,4 +1,3 @@
-pub mod Closed
 pub mod Deciding
 pub mod Faults
 pub mod Finishing
@@ -8,11 +7,11 @@ pub mod Inputs
 pub mod Logs
 pub mod Outcomes
 pub mod Outputs
+pub mod Packings
 pub mod Pictures
 pub mod Provings
 pub mod Running
 pub mod Runs
-pub mod Settings
 pub mod SomeReplay
 pub mod Stages
 pub mod Stepping

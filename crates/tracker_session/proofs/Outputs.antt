@@ -5,10 +5,10 @@ use Rattle.std.specs.List.{AllByRecursion, AllZip, concat, cons_option, enumerat
 use Rattle.std.specs.Option.{option_map}
 use Rattle.std.proofs.lemmas.List.{length_push, take_all, take-append-le}
 use Rattle.std.proofs.lemmas.List.Elements.{filter_map-append}
-use Rattle.asterix_frame.proofs.Settings.{one_setting}
+use Rattle.asterix_frame.proofs.Packings.{one_packing}
 use Rattle.admission_log.specs.declared.settings.Settings.{Settings}
 use Rattle.admission_log.specs.declared.events.Event.{Event}
-use Rattle.admission_log.specs.declared.events.Event.TheVariants.{Deliver, Tick, Publish}
+use Rattle.admission_log.specs.declared.events.Event.TheVariants.{Deliver, Tick, Publish, Bias}
 use Rattle.admission_log.specs.Histories.{History, appended, first, tick_in}
 use Rattle.tracker_session.specs.Picture.{block_of, AreBlocksOf, IsEdition}
 use Rattle.tracker_session.specs.Replay.{IsEditionAt, IsOutput, cut_in, cuts_of, editions_of}
@@ -17,7 +17,7 @@ use Rattle.tracker_session.proofs.Logs.{LogGoesOn, with_events}
 
 -- records have one list of blocks
 pub blocks_same : (records : List (List ℕ)) (a b : List ℕ) → AreBlocksOf records a → AreBlocksOf records b → a ≡ b
-blocks_same records a b h k = h.spelled ∙ ap (flat_map block_of) (one_setting h.groups k.groups h.filled k.filled (h.all ∙ sym k.all)) ∙ sym k.spelled
+blocks_same records a b h k = h.encoded ∙ ap (flat_map block_of) (one_packing h.groups k.groups h.filled k.filled (h.all ∙ sym k.all)) ∙ sym k.encoded
 
 -- ---- pieces, one for each thing
 
@@ -37,14 +37,14 @@ pub record GoesOn {A : Type 0} (out whole : List A) : Type 0 where
   pub rest : List A
   pub parts : whole ≡ out ++ rest
 
--- where each thing has one piece at most, the pieces of the first things stand in front
-zip_front : {A B : Type 0} (R : A → B → Type 0) → ((x : A) (y z : B) → R x y → R x z → y ≡ z) → (xs more : List A) (ys zs : List B) → AllZip R xs ys → AllZip R (xs ++ more) zs → GoesOn ys zs
-zip_front R one [] more [] zs h k = record { rest = zs; parts = refl }
-zip_front R one [] more (y ∷ ys) zs h k = absurd h
-zip_front R one (x ∷ xs) more [] zs h k = absurd h
-zip_front R one (x ∷ xs) more (y ∷ ys) [] h k = absurd k
-zip_front R one (x ∷ xs) more (y ∷ ys) (z ∷ zs) h k =
-    let others = zip_front R one xs more ys zs h.1 k.1 in
+-- where each thing has one piece at most, the pieces of the first things are a prefix
+zip_prefix : {A B : Type 0} (R : A → B → Type 0) → ((x : A) (y z : B) → R x y → R x z → y ≡ z) → (xs more : List A) (ys zs : List B) → AllZip R xs ys → AllZip R (xs ++ more) zs → GoesOn ys zs
+zip_prefix R one [] more [] zs h k = record { rest = zs; parts = refl }
+zip_prefix R one [] more (y ∷ ys) zs h k = absurd h
+zip_prefix R one (x ∷ xs) more [] zs h k = absurd h
+zip_prefix R one (x ∷ xs) more (y ∷ ys) [] h k = absurd k
+zip_prefix R one (x ∷ xs) more (y ∷ ys) (z ∷ zs) h k =
+    let others = zip_prefix R one xs more ys zs h.1 k.1 in
     record { rest = others.rest; parts = (λ i. one x z y k.0 h.0 i ∷ others.parts i) }
 
 zip_same : {A B : Type 0} (R : A → B → Type 0) → ((x : A) (y z : B) → R x y → R x z → y ≡ z) → (xs : List A) (ys zs : List B) → AllZip R xs ys → AllZip R xs zs → ys ≡ zs
@@ -64,17 +64,17 @@ concat_append (x ∷ xs) ys = ap (λ t. x ++ t) (concat_append xs ys) ∙ sym (a
 enumerate_append : {X : Type 0} (n : ℕ) (xs ys : List X) → enumerate_from n (xs ++ ys) ≡ enumerate_from n xs ++ enumerate_from (n + length xs) ys
 enumerate_append n [] ys = ap (λ m. enumerate_from m ys) (omega arith)
 enumerate_append n (x ∷ xs) ys =
-    let behind : n + 1 + length xs ≡ n + length (x ∷ xs) = omega arith in
-    ap (λ t. (n, x) ∷ t) (enumerate_append (n + 1) xs ys ∙ ap (λ m. enumerate_from (n + 1) xs ++ enumerate_from m ys) behind)
+    let after : n + 1 + length xs ≡ n + length (x ∷ xs) = omega arith in
+    ap (λ t. (n, x) ∷ t) (enumerate_append (n + 1) xs ys ∙ ap (λ m. enumerate_from (n + 1) xs ++ enumerate_from m ys) after)
 
 cuts_more : (log : History) (more : List Event) → cuts_of (with_events log more) ≡ cuts_of log ++ filter_map cut_in (enumerate_from (1 + length log.events) more)
 cuts_more log more = ap (filter_map cut_in) (enumerate_append 1 log.events more) ∙ filter_map-append cut_in (enumerate_from 1 log.events) (enumerate_from (1 + length log.events) more)
 
 -- those of the first events, and then others
-abbrev editions_behind : History → List Event → List (ℕ × ℕ)
-editions_behind log more = enumerate_from (1 + length (cuts_of log)) (filter_map cut_in (enumerate_from (1 + length log.events) more))
+abbrev editions_after : History → List Event → List (ℕ × ℕ)
+editions_after log more = enumerate_from (1 + length (cuts_of log)) (filter_map cut_in (enumerate_from (1 + length log.events) more))
 
-editions_more : (log : History) (more : List Event) → editions_of (with_events log more) ≡ editions_of log ++ editions_behind log more
+editions_more : (log : History) (more : List Event) → editions_of (with_events log more) ≡ editions_of log ++ editions_after log more
 editions_more log more = ap (enumerate_from 1) (cuts_more log more) ∙ enumerate_append 1 (cuts_of log) (filter_map cut_in (enumerate_from (1 + length log.events) more))
 
 -- no cut is past the end
@@ -82,6 +82,7 @@ cuts_within : (n : ℕ) (events : List Event) → AllByRecursion (λ cut. cut < 
 cuts_within n [] = tt
 cuts_within n (Tick time ∷ events) = (omega arith, subst (λ (end : ℕ). AllByRecursion (λ cut. cut < end) (filter_map cut_in (enumerate_from (n + 1) events))) (omega arith) (cuts_within (n + 1) events))
 cuts_within n (Deliver feed admitted told other ∷ events) = subst (λ (end : ℕ). AllByRecursion (λ cut. cut < end) (filter_map cut_in (enumerate_from (n + 1) events))) (omega arith) (cuts_within (n + 1) events)
+cuts_within n (Bias radar slot bias ∷ events) = subst (λ (end : ℕ). AllByRecursion (λ cut. cut < end) (filter_map cut_in (enumerate_from (n + 1) events))) (omega arith) (cuts_within (n + 1) events)
 cuts_within n (Publish number cut' ∷ events) = subst (λ (end : ℕ). AllByRecursion (λ cut. cut < end) (filter_map cut_in (enumerate_from (n + 1) events))) (omega arith) (cuts_within (n + 1) events)
 
 numbered_within : (end n : ℕ) (cuts : List ℕ) → AllByRecursion (λ cut. cut < end) cuts → AllByRecursion (λ (edition : ℕ × ℕ). edition.1 < end) (enumerate_from n cuts)
@@ -136,13 +137,13 @@ pub outputs_same : (settings : Settings) (log : History) (a b : List ℕ) → Is
 outputs_same settings log a b h k =
     h.whole ∙ ap concat (zip_same (IsEditionAt settings log) (one_edition settings log) (editions_of log) h.pieces k.pieces h.editions k.editions) ∙ sym k.whole
 
--- the output of a log stands in front of that of a longer one
-pub output_front : (settings : Settings) (log longer : History) (out whole : List ℕ) → LogGoesOn log longer → IsOutput settings log out → IsOutput settings longer whole → GoesOn out whole
-output_front settings log longer out whole on h k =
-    let behind = with_events log on.more in
+-- the output of a log is a prefix of that of a longer one
+pub output_prefix : (settings : Settings) (log longer : History) (out whole : List ℕ) → LogGoesOn log longer → IsOutput settings log out → IsOutput settings longer whole → GoesOn out whole
+output_prefix settings log longer out whole on h k =
+    let after = with_events log on.more in
     let same = subst (λ (l : History). IsOutput settings l whole) on.parts k in
-    let editions = subst (λ (es : List (ℕ × ℕ)). AllZip (IsEditionAt settings behind) es same.pieces) (editions_more log on.more) same.editions in
-    let pieces = zip_front (IsEditionAt settings behind) (one_edition settings behind) (editions_of log) (editions_behind log on.more) h.pieces same.pieces (editions_kept settings log on.more h.pieces h.editions) editions in
+    let editions = subst (λ (es : List (ℕ × ℕ)). AllZip (IsEditionAt settings after) es same.pieces) (editions_more log on.more) same.editions in
+    let pieces = zip_prefix (IsEditionAt settings after) (one_edition settings after) (editions_of log) (editions_after log on.more) h.pieces same.pieces (editions_kept settings log on.more h.pieces h.editions) editions in
     record {
       rest = concat pieces.rest;
       parts = same.whole ∙ ap concat pieces.parts ∙ concat_append h.pieces pieces.rest ∙ ap (λ t. t ++ concat pieces.rest) (sym h.whole);

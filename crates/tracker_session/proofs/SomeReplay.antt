@@ -6,25 +6,29 @@ use Rattle.std.proofs.lemmas.Bool.{cases_lt}
 use Rattle.std.proofs.lemmas.List.{get_or_append_left, get_or_past, take-append-drop}
 use Rattle.std.proofs.lemmas.List.Elements.{All-from_get_or}
 use Rattle.plot_geometry.specs.Plots.{PlanePlot}
-use Rattle.asterix_frame.specs.Blocks.{DataBlock, spelling}
+use Rattle.asterix_frame.specs.Blocks.{DataBlock, encoding}
 use Rattle.asterix_frame.specs.Blocks as frame
 use Rattle.asterix_frame.proofs.Datagrams.{some_reading}
-use Rattle.recording.specs.Items.{Item, datagram, tick, spelled, big_endian}
+use Rattle.recording.specs.declared.header.Header.{Header}
+use Rattle.recording.specs.Biases.{big_endian}
+use Rattle.recording.specs.Items.{Item, datagram, tick, bias, item_octets}
+use Rattle.admission_log.specs.Changes.{IsOpenChange}
 use Rattle.recording.specs.Raw.{TimedBlock, blocks_of, start_of, ticks, tick_before, last_tick, items_from, last_from, tick_at, second, closing}
-use Rattle.recording.specs.Readings.{header, Reads}
+use Rattle.recording.specs.Readings.{header_octets, HasContents}
 use Rattle.recording.proofs.Codes.{IsBytes, bytes_of, rest_bytes}
 use Rattle.admission_log.specs.declared.settings.Settings.{Settings}
 use Rattle.admission_log.specs.declared.events.Event.{Event}
-use Rattle.admission_log.specs.declared.events.Event.TheVariants.{Tick}
-use Rattle.admission_log.specs.Deliveries.{delivery_to}
-use Rattle.admission_log.specs.Histories.{History, first, last_of}
+use Rattle.admission_log.specs.declared.events.Event.TheVariants.{Tick, Bias}
+use Rattle.admission_log.specs.Histories.{History, first, last_of, next_of, low_at}
+use Rattle.admission_log.proofs.Judgements.{delivery, is_delivery}
 use Rattle.admission_log.specs.Plots.{plots_of}
 use Rattle.tracker_session.specs.Counting.{counts_of}
-use Rattle.tracker_session.specs.Inputs.{IsRead, limit}
+use Rattle.io_traits.specs.Places.{place_limit}
+use Rattle.tracker_session.specs.Inputs.{IsInput, tells_biases}
 use Rattle.tracker_session.specs.Picture.{AreBlocksOf, is_shown, track_record, track_records}
-use Rattle.tracker_session.specs.Replay.{Adds, IsLogBehind, IsEditionAt, IsOutput, HasReplay, log_with, empty_log, editions_of}
-use Rattle.tracker_session.specs.Setting.{IsSetting}
-use Rattle.tracker_session.proofs.Settings.{setting_grow, setting_next, setting_end}
+use Rattle.tracker_session.specs.Replay.{Adds, IsLogAfter, IsEditionAt, IsOutput, HasReplay, log_with, empty_log, editions_of}
+use Rattle.tracker_session.specs.Packing.{IsPacking}
+use Rattle.tracker_session.proofs.Packings.{setting_grow, setting_next, setting_end}
 use Rattle.tracker_session.proofs.Inputs.{some_read}
 
 -- ---- editions
@@ -35,12 +39,12 @@ Sixteen r = length r ≡ 16
 record LastOctets (block : DataBlock) : Type 0 where
   octets : List ℕ
   empty : block.body ≡ [] → octets ≡ []
-  spells : 0 < length block.body → octets ≡ frame.spelled block
+  spells : 0 < length block.body → octets ≡ frame.encoded block
 
 last_octets : (block : DataBlock) → LastOctets block
 last_octets block =
     elim (cases_lt 0 (length block.body)) [
-      | inl some ↦ record { octets = frame.spelled block; empty = (λ e. absurd (omega (arith, some, ap length e))); spells = (λ _. refl) }
+      | inl some ↦ record { octets = frame.encoded block; empty = (λ e. absurd (omega (arith, some, ap length e))); spells = (λ _. refl) }
       | inr none ↦ record { octets = []; empty = (λ _. refl); spells = (λ some. absurd (omega (arith, none, some))) }
     ]
 
@@ -48,14 +52,14 @@ record SetOut (records : List (List ℕ)) : Type 0 where
   octets : List ℕ
   blocks : AreBlocksOf records octets
 
-set_out : (done rest : List (List ℕ)) (full : List ℕ) (block : DataBlock) → IsSetting done full block → AllByRecursion Sixteen rest → SetOut (done ++ rest)
+set_out : (done rest : List (List ℕ)) (full : List ℕ) (block : DataBlock) → IsPacking done full block → AllByRecursion Sixteen rest → SetOut (done ++ rest)
 unfolding Sixteen
 set_out done [] full block s fit =
     let last = last_octets block in
     subst SetOut (sym (append-nil done)) (record { octets = full ++ last.octets; blocks = setting_end done full last.octets block s last.empty last.spells })
 set_out done (r ∷ rest) full block s fit =
     elim (cases_lt 1400 (length block.body + length r + 3)) [
-      | inl over ↦ subst SetOut (append_assoc done (r ∷ []) rest) (set_out (done ++ r ∷ []) rest (full ++ frame.spelled block) (record { category = 62; body = r }) (setting_next done full (frame.spelled block) block r s (omega (arith, fit.0)) (omega (arith, fit.0)) over (λ _. refl)) fit.1)
+      | inl over ↦ subst SetOut (append_assoc done (r ∷ []) rest) (set_out (done ++ r ∷ []) rest (full ++ frame.encoded block) (record { category = 62; body = r }) (setting_next done full (frame.encoded block) block r s (omega (arith, fit.0)) (omega (arith, fit.0)) over (λ _. refl)) fit.1)
       | inr room ↦ subst SetOut (append_assoc done (r ∷ []) rest) (set_out (done ++ r ∷ []) rest full (record block { body = block.body ++ r }) (setting_grow done full block r s (omega (arith, fit.0)) room) fit.1)
     ]
 
@@ -91,11 +95,11 @@ some_output settings log =
 
 -- ---- the octets of datagrams are below 256
 
-front_bytes : (octets front rest : List ℕ) → IsBytes octets → octets ≡ front ++ rest → IsBytes front
-front_bytes octets front rest bytes e i =
-    elim (cases_lt i (length front)) [
-      | inl within ↦ omega (arith, bytes i, ap (λ t. get_or t i 0) e, get_or_append_left front rest 0 i within)
-      | inr past ↦ omega (arith, get_or_past front i 0 past)
+prefix_bytes : (octets prefix rest : List ℕ) → IsBytes octets → octets ≡ prefix ++ rest → IsBytes prefix
+prefix_bytes octets prefix rest bytes e i =
+    elim (cases_lt i (length prefix)) [
+      | inl within ↦ omega (arith, bytes i, ap (λ t. get_or t i 0) e, get_or_append_left prefix rest 0 i within)
+      | inr past ↦ omega (arith, get_or_past prefix i 0 past)
     ]
 
 all_of : (octets : List ℕ) → IsBytes octets → All (λ octet. octet < 256) octets
@@ -104,21 +108,25 @@ all_of octets bytes = All-from_get_or (λ octet. octet < 256) octets 0 (λ i lt.
 abbrev HasBytes : Item → Type 0
 HasBytes (datagram feed octets) = IsBytes octets
 HasBytes (tick time) = Unit {0}
+HasBytes (bias radar slot b) = Unit {0}
 
 abbrev AreBytes : List Item → Type 0
 AreBytes = AllByRecursion HasBytes
 
-items_bytes : (items : List Item) (rest : List ℕ) → IsBytes (flat_map spelled items ++ rest) → AreBytes items
+items_bytes : (items : List Item) (rest : List ℕ) → IsBytes (flat_map item_octets items ++ rest) → AreBytes items
 items_bytes [] rest bytes = tt
 items_bytes (datagram feed octets ∷ items) rest bytes =
-    let own = spelled (datagram feed octets) in
-    let behind = flat_map spelled items ++ rest in
-    let parts = append_assoc own (flat_map spelled items) rest in
-    let first = front_bytes (flat_map spelled (datagram feed octets ∷ items) ++ rest) own behind bytes parts in
-    (rest_bytes own (2 ∷ feed ∷ big_endian 2 (length octets)) octets first refl, items_bytes items rest (rest_bytes (flat_map spelled (datagram feed octets ∷ items) ++ rest) own behind bytes parts))
+    let own = item_octets (datagram feed octets) in
+    let after = flat_map item_octets items ++ rest in
+    let parts = append_assoc own (flat_map item_octets items) rest in
+    let first = prefix_bytes (flat_map item_octets (datagram feed octets ∷ items) ++ rest) own after bytes parts in
+    (rest_bytes own (2 ∷ feed ∷ big_endian 2 (length octets)) octets first refl, items_bytes items rest (rest_bytes (flat_map item_octets (datagram feed octets ∷ items) ++ rest) own after bytes parts))
 items_bytes (tick time ∷ items) rest bytes =
-    let own = spelled (tick time) in
-    (tt, items_bytes items rest (rest_bytes (flat_map spelled (tick time ∷ items) ++ rest) own (flat_map spelled items ++ rest) bytes (append_assoc own (flat_map spelled items) rest)))
+    let own = item_octets (tick time) in
+    (tt, items_bytes items rest (rest_bytes (flat_map item_octets (tick time ∷ items) ++ rest) own (flat_map item_octets items ++ rest) bytes (append_assoc own (flat_map item_octets items) rest)))
+items_bytes (bias radar slot b ∷ items) rest bytes =
+    let own = item_octets (bias radar slot b) in
+    (tt, items_bytes items rest (rest_bytes (flat_map item_octets (bias radar slot b ∷ items) ++ rest) own (flat_map item_octets items ++ rest) bytes (append_assoc own (flat_map item_octets items) rest)))
 
 both_bytes : (xs ys : List Item) → AreBytes xs → AreBytes ys → AreBytes (xs ++ ys)
 both_bytes [] ys h k = k
@@ -128,33 +136,33 @@ ticks_bytes : (time : Option ℕ) → AreBytes (ticks time)
 ticks_bytes None = tt
 ticks_bytes (Some time) = (tt, tt)
 
-blocks_bytes : (last : ℕ) (blocks : List TimedBlock) (rest : List ℕ) → IsBytes (spelling (blocks_of blocks) ++ rest) → AreBytes (items_from last blocks)
+blocks_bytes : (last : ℕ) (blocks : List TimedBlock) (rest : List ℕ) → IsBytes (encoding (blocks_of blocks) ++ rest) → AreBytes (items_from last blocks)
 blocks_bytes last [] rest bytes = tt
 blocks_bytes last (b ∷ bs) rest bytes =
-    let own = frame.spelled b.block in
+    let own = frame.encoded b.block in
     let before = tick_before last b.times in
-    let behind = spelling (blocks_of bs) ++ rest in
-    let parts = append_assoc own (spelling (blocks_of bs)) rest in
-    let whole = spelling (blocks_of (b ∷ bs)) ++ rest in
-    both_bytes (ticks before) (datagram 0 own ∷ items_from (last_tick last before) bs) (ticks_bytes before) (front_bytes whole own behind bytes parts, blocks_bytes (last_tick last before) bs rest (rest_bytes whole own behind bytes parts))
+    let after = encoding (blocks_of bs) ++ rest in
+    let parts = append_assoc own (encoding (blocks_of bs)) rest in
+    let whole = encoding (blocks_of (b ∷ bs)) ++ rest in
+    both_bytes (ticks before) (datagram 0 own ∷ items_from (last_tick last before) bs) (ticks_bytes before) (prefix_bytes whole own after bytes parts, blocks_bytes (last_tick last before) bs rest (rest_bytes whole own after bytes parts))
 
 closing_bytes : (blocks : List TimedBlock) (fault : Option ℕ) → AreBytes (closing blocks fault)
 closing_bytes [] fault = tt
 closing_bytes (b ∷ bs) (Some place) = tt
 closing_bytes (b ∷ bs) None = ticks_bytes (tick_at (last_from (start_of (b ∷ bs)) (b ∷ bs) + second))
 
-read_bytes : (octets : List ℕ) (goes_on : Bool) (start : ℕ) (items : List Item) (fault : Option ℕ) → IsBytes octets → Reads octets goes_on start items fault → AreBytes items
-read_bytes octets goes_on start items fault bytes (inl r) =
-    items_bytes items r.items_are.rest (subst IsBytes r.items_are.whole (rest_bytes octets (header start) r.behind bytes r.whole))
-read_bytes octets goes_on start items fault bytes (inr (inl r)) = subst AreBytes (sym r.items_are) tt
-read_bytes octets goes_on start items fault bytes (inr (inr r)) =
+read_bytes : (octets : List ℕ) (goes_on : Bool) (header : Option Header) (start : ℕ) (items : List Item) (fault : Option ℕ) → IsBytes octets → HasContents octets goes_on header start items fault → AreBytes items
+read_bytes octets goes_on (Some header) start items fault bytes (inl r) =
+    items_bytes items r.items_are.rest (subst IsBytes r.items_are.whole (rest_bytes octets (header_octets header start) r.after bytes r.whole))
+read_bytes octets goes_on (Some header) start items fault bytes (inr r) = subst AreBytes (sym r.items_are) tt
+read_bytes octets goes_on None start items fault bytes r =
     subst AreBytes (sym r.items_are) (both_bytes (items_from (start_of r.blocks) r.blocks) (closing r.blocks fault) (blocks_bytes (start_of r.blocks) r.blocks r.blocks_are.rest (subst IsBytes r.blocks_are.whole bytes)) (closing_bytes r.blocks fault))
 
-input_bytes : (octets : List ℕ) (start : ℕ) (items : List Item) (fault : Option ℕ) → IsBytes octets → IsRead octets start items fault → AreBytes items
-input_bytes octets start items fault bytes r =
-    elim (cases_lt limit (length octets)) [
-      | inl long ↦ read_bytes (take limit octets) true start items fault (front_bytes octets (take limit octets) (drop limit octets) bytes (sym (take-append-drop limit octets))) (r.front long)
-      | inr short ↦ read_bytes octets false start items fault bytes (r.whole short)
+input_bytes : (octets : List ℕ) (header : Option Header) (start : ℕ) (items : List Item) (fault : Option ℕ) → IsBytes octets → IsInput octets header start items fault → AreBytes items
+input_bytes octets header start items fault bytes r =
+    elim (cases_lt place_limit (length octets)) [
+      | inl long ↦ read_bytes (take place_limit octets) true header start items fault (prefix_bytes octets (take place_limit octets) (drop place_limit octets) bytes (sym (take-append-drop place_limit octets))) (r.prefix long)
+      | inr short ↦ read_bytes octets false header start items fault bytes (r.whole short)
     ]
 
 -- ---- the log of items
@@ -166,7 +174,7 @@ record SomeAdded (settings : Settings) (log : History) (item : Item) : Type 0 wh
 some_added : (settings : Settings) (log : History) (item : Item) → HasBytes item → SomeAdded settings log item
 some_added settings log (datagram feed octets) bytes =
     elim (some_reading octets (all_of octets bytes)) [
-      | inl (contents, whole) ↦ record { added = Some (delivery_to settings log feed contents); adds = (contents, whole, refl) }
+      | inl (contents, whole) ↦ record { added = Some (delivery settings (last_of log) (next_of log) feed contents); adds = (contents, whole, is_delivery settings (last_of log) (next_of log) feed contents) }
       | inr (offset, cause, fault) ↦ record { added = None; adds = record { offset = offset; cause = cause; fault = fault } }
     ]
 some_added settings log (tick time) bytes =
@@ -174,10 +182,18 @@ some_added settings log (tick time) bytes =
       | inl later ↦ record { added = Some (Tick time); adds = (later, refl) }
       | inr old ↦ record { added = None; adds = old }
     ]
+some_added settings log (bias radar slot b) bytes =
+    elim (cases_lt radar (length settings.radars)) [
+      | inr unknown ↦ record { added = None; adds = λ (open : IsOpenChange settings (last_of log) radar slot). omega (arith, unknown, open.known) }
+      | inl known ↦ elim (cases_lt slot (low_at settings.window (last_of log))) [
+        | inl late ↦ record { added = None; adds = λ (open : IsOpenChange settings (last_of log) radar slot). omega (arith, late, open.not_late) }
+        | inr not_late ↦ record { added = Some (Bias radar slot b); adds = (record { known = known; not_late = not_late }, refl) }
+      ]
+    ]
 
 record SomeLog (settings : Settings) (earlier : History) (items : List Item) : Type 0 where
   log : History
-  is : IsLogBehind settings earlier items log
+  is : IsLogAfter settings earlier items log
 
 some_log : (settings : Settings) (earlier : History) (items : List Item) → AreBytes items → SomeLog settings earlier items
 some_log settings earlier [] bytes = record { log = earlier; is = refl }
@@ -189,11 +205,11 @@ some_log settings earlier (item ∷ items) bytes =
 pub some_replay : (settings : Settings) (octets : List ℕ) → All (λ octet. octet < 256) octets → HasReplay settings octets
 some_replay settings octets all =
     let r = some_read octets all in
-    let l = some_log settings (empty_log r.start) r.items (input_bytes octets r.start r.items r.fault (bytes_of octets all) r.reading) in
+    let l = some_log settings (empty_log r.start) r.items (input_bytes octets r.header r.start r.items r.fault (bytes_of octets all) r.reading) in
     let o = some_output settings l.log in
     record {
       output = o.octets;
-      counts = counts_of r.items l.log;
+      counts = counts_of (tells_biases octets) r.items l.log;
       fault = r.fault;
-      replays = record { start = r.start; items = r.items; reading = r.reading; log = l.log; log_is = l.is; output_is = o.is; counts_are = refl };
+      replays = record { header = r.header; start = r.start; items = r.items; reading = r.reading; log = l.log; log_is = l.is; output_is = o.is; counts_are = refl };
     }

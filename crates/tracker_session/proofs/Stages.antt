@@ -1,17 +1,20 @@
 -- How far a replay came, from step to step.
-use Rattle.std.proofs.Common.{◌≡◌, ◌≢◌, ◌∙◌, sym, subst, inl, inr, ℕ, List}
-use Rattle.std.specs.Prelude.{None, Result, Ok, Err}
+use Rattle.std.proofs.Common.{◌≡◌, ◌∙◌, refl, sym, subst, inl, inr, ℕ, List, [], ◌∷◌}
+use Rattle.std.specs.Prelude.{IsFalse, None, Result, Ok, Err}
 use Rattle.io_traits.specs.Faults.{Rose}
-use Rattle.io_traits.specs.Host.{HostState, IsEmpty, ChangesOnly, WritesOnly}
+use Rattle.io_traits.specs.Host.{HostState, IsEmpty}
+use Rattle.io_traits.specs.Touching.{Touches, is_in}
 use Rattle.io_traits.specs.declared.host.Place.{Place}
 use Rattle.io_traits.specs.declared.host.Place.TheVariants as places
 use Rattle.tracker_session.specs.declared.screen.Counts.{Counts}
 use Rattle.tracker_session.specs.declared.status.Spot.{Spot}
 use Rattle.tracker_session.specs.declared.status.Status.{Status}
 use Rattle.tracker_session.specs.declared.status.Status.TheVariants.{Done, Usage, Settings, Input, Read, Write, Memory, NotProved}
-use Rattle.tracker_session.specs.Answers.{IsAnswer, WritingBreaksOff}
-use Rattle.tracker_session.specs.Places.{HasFailed, OutputBound, StopsReading, StopsWriting}
-use Rattle.tracker_session.specs.Stages.{AllOpen, AreUntouched, CameTo, InOrder, IsSettled, IsUntouched, RanTo, RanToUnder, WasRead}
+use Rattle.tracker_session.specs.Answers.{IsReplayAnswer, WritingBreaksOff}
+use Rattle.io_traits.specs.Places.{HasFailed}
+use Rattle.tracker_session.specs.Places.{OutputBound, StopsReading, StopsWriting}
+use Rattle.tracker_session.proofs.Frames.{OnlyWritten}
+use Rattle.tracker_session.specs.Stages.{AllOpen, AreUntouched, CameTo, InOrder, HasSettings, IsUntouched, RanTo, RanToUnder, WasReadAs}
 
 -- The place is as it was.
 pub record IsAsBefore (place : Place) (old new : HostState) : Type 0 where
@@ -20,19 +23,16 @@ pub record IsAsBefore (place : Place) (old new : HostState) : Type 0 where
   pub got : new.got place ≡ old.got place
   pub faults : new.faults place ≡ old.faults place
 
--- a step at another place
-pub as_changed : (place other : Place) (old new : HostState) → place ≢ other → ChangesOnly other old new → IsAsBefore place old new
-as_changed place other old new ne h = record { bound = h.bound place ne; left = h.left place ne; got = h.got place ne; faults = h.faults place ne }
-
-pub as_written : (place other : Place) (old new : HostState) → place ≢ other → WritesOnly other old new → IsAsBefore place old new
-as_written place other old new ne h = record { bound = h.bound place; left = h.left place; got = h.got place ne; faults = h.faults place ne }
+-- a step that didn't touch it
+pub apart : {bs rs ws : List Place} (place : Place) (old new : HostState) → IsFalse (is_in bs place) → IsFalse (is_in rs place) → IsFalse (is_in ws place) → Touches bs rs ws old new → IsAsBefore place old new
+apart place old new b r w h = record { bound = h.bindings place b; left = h.left place r; got = h.got place w; faults = h.faults place b r w }
 
 pub untouched : (place : Place) (old new : HostState) → old.bound place ≡ None → IsAsBefore place old new → IsUntouched place old new
 untouched place old new unbound h = record { bound = h.bound ∙ unbound; left = h.left; got = h.got; faults = h.faults }
 
 -- ---- a step more
 
-pub read_then : (place : Place) (name : List ℕ) (old mid new : HostState) → IsAsBefore place mid new → WasRead place name old mid → WasRead place name old new
+pub read_then : (place : Place) (name : List ℕ) (old mid new : HostState) → IsAsBefore place mid new → WasReadAs place name old mid → WasReadAs place name old new
 read_then place name old mid new h r = record { bound = h.bound ∙ r.bound; faults = h.faults ∙ r.faults; whole = λ all has short. subst IsEmpty (sym h.left) (r.whole all has short) }
 
 pub untouched_then : (place : Place) (old mid new : HostState) → IsAsBefore place mid new → IsUntouched place old mid → IsUntouched place old new
@@ -43,7 +43,7 @@ failed_then place old mid new h failed = subst (λ (n : ℕ). Rose (old.faults p
 
 -- ---- a step before
 
-pub read_since : (place : Place) (name : List ℕ) (old mid new : HostState) → IsAsBefore place old mid → WasRead place name mid new → WasRead place name old new
+pub read_since : (place : Place) (name : List ℕ) (old mid new : HostState) → IsAsBefore place old mid → WasReadAs place name mid new → WasReadAs place name old new
 read_since place name old mid new h r = record { bound = r.bound; faults = r.faults ∙ h.faults; whole = λ all has short. r.whole all (h.left ∙ has) short }
 
 pub untouched_since : (place : Place) (old mid new : HostState) → IsAsBefore place old mid → IsUntouched place mid new → IsUntouched place old new
@@ -69,7 +69,7 @@ under_unread input output (Write spot) old new h k = absurd h
 under_unread input output (NotProved index offset) old new h k = absurd h
 
 -- Output wasn't bound
-pub under_unopened : (input output : List ℕ) (s : Status) (old new : HostState) → StopsWriting s old new → WasRead places.Input input old new → RanToUnder input output (Err s) old new
+pub under_unopened : (input output : List ℕ) (s : Status) (old new : HostState) → StopsWriting s old new → WasReadAs places.Input input old new → RanToUnder input output (Err s) old new
 under_unopened input output (Write spot) old new h r = (h.0, r, h.1)
 under_unopened input output Memory old new h r = inr r
 under_unopened input output (Input offset) old new h r = absurd h
@@ -80,7 +80,7 @@ under_unopened input output (Read spot) old new h r = absurd h
 under_unopened input output (NotProved index offset) old new h r = absurd h
 
 -- the items were taken, or writing broke off
-pub under_taken : (input output : List ℕ) (r : Result Counts Status) (old mid new : HostState) → WritingBreaksOff r mid new → (HasFailed places.Output mid new → HasFailed places.Output old new) → WasRead places.Input input old new → (IsAnswer r → OutputBound output old new) → RanToUnder input output r old new
+pub under_taken : (input output : List ℕ) (r : Result Counts Status) (old mid new : HostState) → WritingBreaksOff r mid new → (HasFailed places.Output mid new → HasFailed places.Output old new) → WasReadAs places.Input input old new → (IsReplayAnswer r → OutputBound output old new) → RanToUnder input output r old new
 under_taken input output (Ok counts) old mid new h up read bound = (read, bound tt)
 under_taken input output (Err (Input offset)) old mid new h up read bound = (read, bound tt)
 under_taken input output (Err (Write spot)) old mid new h up read bound = (h.0, read, up h.1)
@@ -104,8 +104,8 @@ came_unread settings input output (Settings fault) old new h k = absurd h
 came_unread settings input output (Write spot) old new h k = absurd h
 came_unread settings input output (NotProved index offset) old new h k = absurd h
 
--- Settings was read, and the steps behind it came so far
-pub came_under : (settings input output : List ℕ) (r : Result Counts Status) (old mid new : HostState) → IsSettled settings old new → IsAsBefore places.Input old mid → IsAsBefore places.Output old mid → RanToUnder input output r mid new → RanTo settings input output r old new
+-- Settings was read, and the steps after it came so far
+pub came_under : (settings input output : List ℕ) (r : Result Counts Status) (old mid new : HostState) → HasSettings settings old new → IsAsBefore places.Input old mid → IsAsBefore places.Output old mid → RanToUnder input output r mid new → RanTo settings input output r old new
 came_under settings input output (Ok counts) old mid new s i o h = record { settled = s; input_read = read_since places.Input input old mid new i h.0; output_bound = bound_since output old mid new o h.1 }
 came_under settings input output (Err (Input offset)) old mid new s i o h = record { settled = s; input_read = read_since places.Input input old mid new i h.0; output_bound = bound_since output old mid new o h.1 }
 came_under settings input output (Err (Write spot)) old mid new s i o h = (h.0, s, read_since places.Input input old mid new i h.1, failed_since places.Output old mid new o h.2)
@@ -119,22 +119,22 @@ came_under settings input output (Err (NotProved index offset)) old mid new s i 
 
 -- ---- when Screen was written
 
-settings_still : (mid new : HostState) → WritesOnly places.Screen mid new → IsAsBefore places.Settings mid new
-settings_still mid new only = as_written places.Settings places.Screen mid new (λ e. cc) only
+settings_still : (mid new : HostState) → OnlyWritten places.Screen mid new → IsAsBefore places.Settings mid new
+settings_still mid new only = apart places.Settings mid new refl refl refl only
 
-input_still : (mid new : HostState) → WritesOnly places.Screen mid new → IsAsBefore places.Input mid new
-input_still mid new only = as_written places.Input places.Screen mid new (λ e. cc) only
+input_still : (mid new : HostState) → OnlyWritten places.Screen mid new → IsAsBefore places.Input mid new
+input_still mid new only = apart places.Input mid new refl refl refl only
 
-output_still : (mid new : HostState) → WritesOnly places.Screen mid new → IsAsBefore places.Output mid new
-output_still mid new only = as_written places.Output places.Screen mid new (λ e. cc) only
+output_still : (mid new : HostState) → OnlyWritten places.Screen mid new → IsAsBefore places.Output mid new
+output_still mid new only = apart places.Output mid new refl refl refl only
 
-pub untouched_still : (old mid new : HostState) → WritesOnly places.Screen mid new → AreUntouched old mid → AreUntouched old new
+pub untouched_still : (old mid new : HostState) → OnlyWritten places.Screen mid new → AreUntouched old mid → AreUntouched old new
 untouched_still old mid new only u = record { input = untouched_then places.Input old mid new (input_still mid new only) u.input; output = untouched_then places.Output old mid new (output_still mid new only) u.output }
 
-settled_still : (settings : List ℕ) (old mid new : HostState) → WritesOnly places.Screen mid new → IsSettled settings old mid → IsSettled settings old new
+settled_still : (settings : List ℕ) (old mid new : HostState) → OnlyWritten places.Screen mid new → HasSettings settings old mid → HasSettings settings old new
 settled_still settings old mid new only s = record { read = read_then places.Settings settings old mid new (settings_still mid new only) s.read; good = s.good }
 
-pub open_still : (settings input output : List ℕ) (old mid new : HostState) → WritesOnly places.Screen mid new → AllOpen settings input output old mid → AllOpen settings input output old new
+pub open_still : (settings input output : List ℕ) (old mid new : HostState) → OnlyWritten places.Screen mid new → AllOpen settings input output old mid → AllOpen settings input output old new
 open_still settings input output old mid new only all = record {
   settled = settled_still settings old mid new only all.settled;
   input_read = read_then places.Input input old mid new (input_still mid new only) all.input_read;
@@ -154,13 +154,13 @@ in_order settings input output (Err Done) old new h = absurd h
 in_order settings input output (Err Usage) old new h = absurd h
 in_order settings input output (Err (NotProved index offset)) old new h = absurd h
 
-pub order_still : (settings input : List ℕ) (old mid new : HostState) → WritesOnly places.Screen mid new → InOrder settings input old mid → InOrder settings input old new
+pub order_still : (settings input : List ℕ) (old mid new : HostState) → OnlyWritten places.Screen mid new → InOrder settings input old mid → InOrder settings input old new
 order_still settings input old mid new only (inl u) = inl (untouched_still old mid new only u)
 order_still settings input old mid new only (inr (s, inl u)) = inr (settled_still settings old mid new only s, inl (untouched_then places.Output old mid new (output_still mid new only) u))
 order_still settings input old mid new only (inr (s, inr r)) = inr (settled_still settings old mid new only s, inr (read_then places.Input input old mid new (input_still mid new only) r))
 
 -- the status was told
-pub came_still : (settings input output : List ℕ) (s : Status) (old mid new : HostState) → WritesOnly places.Screen mid new → RanTo settings input output (Err s) old mid → CameTo settings input output s old new
+pub came_still : (settings input output : List ℕ) (s : Status) (old mid new : HostState) → OnlyWritten places.Screen mid new → RanTo settings input output (Err s) old mid → CameTo settings input output s old new
 came_still settings input output (Settings fault) old mid new only h = (read_then places.Settings settings old mid new (settings_still mid new only) h.0, untouched_still old mid new only h.1)
 came_still settings input output (Input offset) old mid new only h = open_still settings input output old mid new only h
 came_still settings input output (Read spot) old mid new only (inl h) =

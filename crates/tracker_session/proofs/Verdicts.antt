@@ -12,9 +12,9 @@ use Rattle.price_form.proofs.PrefixFaults.{file_or_fault, some_fault}
 use Rattle.recording.proofs.Codes.{bytes_of}
 use Rattle.tracker_session.specs.Checking.{AllProve, Checks, FirstFails, HasFileFault, HasVerdict, IsFile, IsProved, Verdict, certificates_in, proved, fails, fault}
 use Rattle.tracker_session.specs.CheckRuns.{RecordFails}
-use Rattle.tracker_session.specs.Inputs.{limit}
+use Rattle.io_traits.specs.Places.{place_limit}
 use Rattle.tracker_session.proofs.Deciding.{record_proves}
-use Rattle.tracker_session.proofs.Inputs.{front_bytes}
+use Rattle.tracker_session.proofs.Inputs.{prefix_bytes}
 use Rattle.tracker_session.proofs.Outcomes.{Alike}
 
 -- files that are one, or both pass the limit and are one before it, have one verdict
@@ -25,7 +25,7 @@ checks_alike a b (fails index offset) (inr both) h = absurd (omega (arith, both.
 checks_alike a b (fault offset) (inr both) h =
     record {
       whole = λ short. absurd (omega (arith, both.long', short));
-      front = λ long. subst (λ (f : List ℕ). IsPrefixFault f offset) both.front (h.front both.long);
+      prefix = λ long. subst (λ (f : List ℕ). IsPrefixFault f offset) both.prefix (h.prefix both.long);
     }
 
 -- ---- one at most
@@ -71,8 +71,8 @@ fails_fails octets i j p q h k =
 
 fault_fault : (octets : List ℕ) (p q : ℕ) → HasFileFault octets p → HasFileFault octets q → p ≡ q
 fault_fault octets p q h k =
-    elim (cases_lt limit (length octets)) [
-      | inl long ↦ one_fault (take limit octets) p q (h.front long) (k.front long)
+    elim (cases_lt place_limit (length octets)) [
+      | inl long ↦ one_fault (take place_limit octets) p q (h.prefix long) (k.prefix long)
       | inr short ↦ same_fault octets p q (h.whole short) (k.whole short)
     ]
 
@@ -122,11 +122,11 @@ verdict_on octets records file = elim (judged records) [
 ]
 
 pub some_verdict : (octets : List ℕ) → All (λ octet. octet < 256) octets → HasVerdict octets
-some_verdict octets all = elim (cases_lt limit (length octets)) [
-  | inl long ↦ (let f = some_fault (take limit octets) (front_bytes limit octets (bytes_of octets all)) in
-      record { verdict = fault f.offset; checks = record { whole = λ short. absurd (omega (arith, long, short)); front = λ _. f.fault } })
+some_verdict octets all = elim (cases_lt place_limit (length octets)) [
+  | inl long ↦ (let f = some_fault (take place_limit octets) (prefix_bytes place_limit octets (bytes_of octets all)) in
+      record { verdict = fault f.offset; checks = record { whole = λ short. absurd (omega (arith, long, short)); prefix = λ _. f.fault } })
   | inr short ↦ elim (file_or_fault octets (bytes_of octets all)) [
     | inl file ↦ verdict_on octets file.0 (record { within = short; prices = file.1 })
-    | inr bad ↦ record { verdict = fault bad.0; checks = record { whole = λ _. bad.1; front = λ long. absurd (omega (arith, long, short)) } }
+    | inr bad ↦ record { verdict = fault bad.0; checks = record { whole = λ _. bad.1; prefix = λ long. absurd (omega (arith, long, short)) } }
   ]
 ]

@@ -1,6 +1,7 @@
 -- What came of checking a price file, before Screen got anything.
-use Rattle.std.specs.Prelude.{◌≡◌, ◌⊎◌, ⊤, ℕ, List, ◌∷◌, ◌++◌, All, Result, Ok, Err}
+use Rattle.std.specs.Prelude.{◌≡◌, ◌⊎◌, ⊤, ℕ, List, [], ◌∷◌, ◌++◌, All, Result, Ok, Err}
 use Rattle.io_traits.specs.Host.{HostState}
+use Rattle.io_traits.specs.Touching.{Touches}
 use Rattle.io_traits.specs.declared.host.Place.TheVariants as places
 use Rattle.io_traits.specs.declared.host.Way.TheVariants as ways
 use Rattle.price_form.specs.declared.certs.Cert.{Cert}
@@ -9,7 +10,7 @@ use Rattle.price_form.specs.declared.certs.PriceRecord.TheVariants.{Cert as Cert
 use Rattle.tracker_session.specs.declared.status.Status.{Status}
 use Rattle.tracker_session.specs.declared.status.Status.TheVariants.{Input, Memory, NotProved}
 use Rattle.tracker_session.specs.Checking.{Checks, HasFileFault, IsProved, certificates_in, proved, fails, fault}
-use Rattle.tracker_session.specs.Places.{BoundAtMost, PlaceRead, StopsReading, UsesRead}
+use Rattle.tracker_session.specs.Places.{BoundAtMost, PlaceRead, StopsReading}
 
 -- why octets aren't taken as records
 abbrev pub StopsTaking : List ℕ → Status → Type 0
@@ -60,4 +61,4 @@ pub record WasJudged (prices : List ℕ) (result : Result ℕ Status) (old new :
 pub record CheckRan (prices : List ℕ) (result : Result ℕ Status) (old new : HostState) : Type 0 where
   pub came : BrokeOff result old new ⊎ WasJudged prices result old new
   pub bound : BoundAtMost (new.bound places.Prices) ways.Read prices
-  pub uses : UsesRead places.Prices old new
+  pub touches : Touches (places.Prices ∷ []) (places.Prices ∷ []) [] old new

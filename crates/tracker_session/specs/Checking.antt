@@ -6,7 +6,7 @@ use Rattle.price_form.specs.declared.certs.PriceRecord.{PriceRecord}
 use Rattle.price_form.specs.declared.certs.PriceRecord.TheVariants.{Edition, Cert as Certified}
 use Rattle.price_form.specs.Files.{ArePrices, IsPriceFault}
 use Rattle.price_form.specs.Prefixes.{IsPrefixFault}
-use Rattle.tracker_session.specs.Inputs.{limit}
+use Rattle.io_traits.specs.Places.{place_limit}
 
 -- a certificate proves its pairing; an edition has nothing to prove
 abbrev pub IsProved : PriceRecord → Type 0
@@ -23,7 +23,7 @@ certificates_in records = count_by is_certificate records
 
 -- the octets are a price file of these records, within the limit
 pub record IsFile (octets : List ℕ) (records : List PriceRecord) : Type 0 where
-  pub within : length octets ≤ limit
+  pub within : length octets ≤ place_limit
   pub prices : ArePrices octets records
 
 -- All its certificates prove, and these are so many.
@@ -43,12 +43,12 @@ pub record FirstFails (octets : List ℕ) (index offset : ℕ) : Type 0 where
   pub fails : IsProved (Certified cert offset) → ⊥
   pub counted : index ≡ certificates_in before
 
--- The octets are no price file, or pass the limit. Of those that pass it the fault is that of the front up to there.
+-- The octets are no price file, or pass the limit. Of those that pass it the fault is that of the prefix up to there.
 pub record HasFileFault (octets : List ℕ) (offset : ℕ) : Type 0 where
-  pub whole : length octets ≤ limit → IsPriceFault octets offset
-  pub front : limit < length octets → IsPrefixFault (take limit octets) offset
+  pub whole : length octets ≤ place_limit → IsPriceFault octets offset
+  pub prefix : place_limit < length octets → IsPrefixFault (take place_limit octets) offset
 
--- so many certificates, all of which prove; or the first that doesn't, by its number from 0 and its place; or the place of the first fault
+-- so many certificates, all of which prove; or the first that doesn't, by its number from 0 and its offset; or the offset of the first fault
 pub data Verdict : Type 0 where
   proved : ℕ → Verdict
   fails : ℕ → ℕ → Verdict

@@ -1,9 +1,9 @@
 -- What is counted of the items of a replay and of their log.
-use Rattle.std.specs.Prelude.{◌^◌, ◌-◌, ℕ, min, Bool, true, false, List, count_by}
+use Rattle.std.specs.Prelude.{◌^◌, ◌+◌, ◌-◌, ℕ, zero, suc, min, Bool, true, false, List, count_by}
 use Rattle.std.specs.List.{flat_map, sum_by}
-use Rattle.recording.specs.Items.{Item, datagram, tick}
+use Rattle.recording.specs.Items.{Item, datagram, tick, bias}
 use Rattle.admission_log.specs.declared.events.Event.{Event}
-use Rattle.admission_log.specs.declared.events.Event.TheVariants.{Deliver, Tick}
+use Rattle.admission_log.specs.declared.events.Event.TheVariants.{Deliver, Tick, Bias}
 use Rattle.admission_log.specs.declared.events.Outcome.{Outcome}
 use Rattle.admission_log.specs.declared.events.Outcome.TheVariants as outcomes
 use Rattle.admission_log.specs.Histories.{History}
@@ -14,11 +14,15 @@ use Rattle.tracker_session.specs.declared.screen.Counts.{Counts}
 
 abbrev pub is_datagram : Item → Bool
 is_datagram (datagram feed octets) = true
-is_datagram (tick time) = false
+is_datagram _ = false
 
 abbrev pub is_tick : Item → Bool
 is_tick (tick time) = true
-is_tick (datagram feed octets) = false
+is_tick _ = false
+
+abbrev pub is_bias : Item → Bool
+is_bias (bias radar slot b) = true
+is_bias _ = false
 
 -- ---- events
 
@@ -29,6 +33,11 @@ is_delivery _ = false
 abbrev pub is_tick_taken : Event → Bool
 is_tick_taken (Tick time) = true
 is_tick_taken _ = false
+
+-- a change of a radar's biases
+abbrev pub is_change : Event → Bool
+is_change (Bias radar slot bias) = true
+is_change _ = false
 
 -- the blocks that an event passed over
 abbrev pub others_in : Event → ℕ
@@ -67,16 +76,42 @@ told_of log = flat_map outcomes_in log.events
 abbrev pub counted : ℕ → ℕ
 counted n = min n (2 ^ 64 - 1)
 
--- What became of items whose log is this: the ticks that were taken, what was told of the messages, and the blocks that were passed over are those of the log; malformed are the datagrams that aren't in it, and old the ticks that aren't.
-abbrev pub counts_of : List Item → History → Counts
-counts_of items log = record {
+-- .. that rises by so many
+abbrev pub raised : ℕ → ℕ → ℕ
+raised n zero = n
+raised n (suc more) = counted (n + suc more)
+
+-- how many items of a kind the events of a kind are fewer than
+abbrev pub missed : (Item → Bool) → (Event → Bool) → List Item → History → ℕ
+missed item event items log = counted (count_by item items - count_by event log.events)
+
+-- What became of items whose log is this: the ticks that were taken, the changes of biases, what was told of the messages, and the blocks that were passed over are those of the log; malformed are the datagrams that aren't in it, old the ticks that aren't, and refused the changes of biases that aren't.
+abbrev pub counts_of : Bool → List Item → History → Counts
+counts_of tells_biases items log = record {
   editions = counted (count_by is_tick_taken log.events);
   admitted = counted (count_by is_admitted (told_of log));
   unknown = counted (count_by is_unknown (told_of log));
   early = counted (count_by is_early (told_of log));
   ahead = counted (count_by is_ahead (told_of log));
   not_plots = counted (count_by is_not_plot (told_of log));
-  malformed = counted (count_by is_datagram items - count_by is_delivery log.events);
+  malformed = missed is_datagram is_delivery items log;
   other = counted (sum_by others_in log.events);
-  old = counted (count_by is_tick items - count_by is_tick_taken log.events);
+  old = missed is_tick is_tick_taken items log;
+  tells_biases = tells_biases;
+  biases = counted (count_by is_change log.events);
+  refused = missed is_bias is_change items log;
+}
+
+-- those of no item
+abbrev pub no_counts : Bool → Counts
+no_counts tells_biases = record { editions = 0; admitted = 0; unknown = 0; early = 0; ahead = 0; not_plots = 0; malformed = 0; other = 0; old = 0; tells_biases = tells_biases; biases = 0; refused = 0 }
+
+-- with what was told of more messages, kind by kind
+abbrev pub with_told : List Outcome → Counts → Counts
+with_told told c = record c {
+  admitted = raised c.admitted (count_by is_admitted told);
+  unknown = raised c.unknown (count_by is_unknown told);
+  early = raised c.early (count_by is_early told);
+  ahead = raised c.ahead (count_by is_ahead told);
+  not_plots = raised c.not_plots (count_by is_not_plot told);
 }

@@ -2,7 +2,6 @@ pub mod Answers
 pub mod CheckEnds
 pub mod CheckRuns
 pub mod Checking
-pub mod Closing
 pub mod Counting
 pub mod Ends
 pub mod Faulty
@@ -13,10 +12,9 @@ pub mod Places
 pub mod Replay
 pub mod Runs
 pub mod Screen
-pub mod Setting
+pub mod Packing
 pub mod Stages
 pub mod Status
 pub mod Steps
-pub mod Tallies
 pub mod Telling
 pub mod Words

@@ -5,7 +5,7 @@ use Rattle.std.specs.Int.{w32, cast_unsigned}
 use Rattle.trk_base.specs.Numbers.{day, round}
 use Rattle.plot_geometry.specs.Plots.{PlanePlot}
 use Rattle.asterix_frame.specs.Blocks as frame
-use Rattle.asterix_frame.specs.Groups.{AreFilled, ungrouped}
+use Rattle.asterix_frame.specs.Packing.{AreFilled, ungrouped}
 use Rattle.recording.specs.Items.{big_endian}
 use Rattle.admission_log.specs.declared.settings.Settings.{Settings}
 use Rattle.admission_log.specs.Histories.{History, last_of}
@@ -21,14 +21,14 @@ signed z = big_endian 3 (cast_unsigned w32 z)
 
 -- the octets of a block of these records
 abbrev pub block_of : List (List ℕ) → List ℕ
-block_of records = frame.spelled (record { category = 62; body = concat records })
+block_of records = frame.encoded (record { category = 62; body = concat records })
 
 -- the records set out in blocks, each filled as far as whole records go
 pub record AreBlocksOf (records : List (List ℕ)) (octets : List ℕ) : Type 0 where
   pub groups : List (List (List ℕ))
   pub filled : AreFilled groups
   pub all : ungrouped groups ≡ records
-  pub spelled : octets ≡ flat_map block_of groups
+  pub encoded : octets ≡ flat_map block_of groups
 
 -- the plots that are shown have an arrival of at most 65,534
 abbrev pub is_shown : PlanePlot → Bool

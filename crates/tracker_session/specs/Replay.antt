@@ -3,15 +3,17 @@ use Rattle.std.specs.Prelude.{◌≡◌, ◌<◌, ◌≤◌, ℕ, List, [], ◌�
 use Rattle.std.specs.List.{AllZip, concat, enumerate_from, filter_map}
 use Rattle.std.specs.Option.{option_map}
 use Rattle.asterix_frame.specs.Datagrams.{Content, IsDatagram, DatagramFault}
-use Rattle.recording.specs.Items.{Item, datagram, tick}
+use Rattle.recording.specs.declared.header.Header.{Header}
+use Rattle.recording.specs.Items.{Item, datagram, tick, bias}
 use Rattle.admission_log.specs.declared.settings.Settings.{Settings}
 use Rattle.admission_log.specs.declared.events.Event.{Event}
-use Rattle.admission_log.specs.declared.events.Event.TheVariants.{Tick}
+use Rattle.admission_log.specs.declared.events.Event.TheVariants.{Tick, Bias}
 use Rattle.admission_log.specs.Histories.{History, appended, first, last_of, tick_in}
-use Rattle.admission_log.specs.Deliveries.{delivery_to}
+use Rattle.admission_log.specs.Changes.{IsOpenChange}
+use Rattle.admission_log.specs.Deliveries.{IsDeliveryTo}
 use Rattle.tracker_session.specs.declared.screen.Counts.{Counts}
 use Rattle.tracker_session.specs.Counting.{counts_of}
-use Rattle.tracker_session.specs.Inputs.{IsRead}
+use Rattle.tracker_session.specs.Inputs.{IsInput, tells_biases}
 use Rattle.tracker_session.specs.Picture.{IsEdition}
 
 -- ---- the log
@@ -21,21 +23,23 @@ pub record HasFault (octets : List ℕ) : Type 0 where
   pub cause : ℕ
   pub fault : DatagramFault octets offset cause
 
--- The event that an item adds to a log, or none: a datagram without a fault adds its delivery, and a tick above the last one itself; a datagram with a fault and an old tick add nothing.
+-- The event that an item adds to a log, or none: a datagram without a fault adds its delivery, a tick above the last one itself, and a change of biases itself, where a radar has its index and its slot isn't before the horizon; a datagram with a fault, an old tick and any other change of biases add nothing.
 abbrev pub Adds : Settings → History → Item → Option Event → Type 0
-Adds settings log (datagram feed octets) (Some event) = (contents : List Content) × IsDatagram octets contents × (event ≡ delivery_to settings log feed contents)
+Adds settings log (datagram feed octets) (Some event) = (contents : List Content) × IsDatagram octets contents × IsDeliveryTo settings log feed contents event
 Adds settings log (datagram feed octets) None = HasFault octets
 Adds settings log (tick time) (Some event) = (last_of log < time) × (event ≡ Tick time)
 Adds settings log (tick time) None = time ≤ last_of log
+Adds settings log (bias radar slot b) (Some event) = IsOpenChange settings (last_of log) radar slot × (event ≡ Bias radar slot b)
+Adds settings log (bias radar slot b) None = IsOpenChange settings (last_of log) radar slot → ⊥
 
 abbrev pub log_with : History → Option Event → History
 log_with log (Some event) = appended log event
 log_with log None = log
 
--- the log has what the items add behind an earlier log, one after the other
-abbrev pub IsLogBehind : Settings → History → List Item → History → Type 0
-IsLogBehind settings earlier [] log = log ≡ earlier
-IsLogBehind settings earlier (item ∷ items) log = (added : Option Event) × Adds settings earlier item added × IsLogBehind settings (log_with earlier added) items log
+-- the log has what the items add to an earlier log, one after the other
+abbrev pub IsLogAfter : Settings → History → List Item → History → Type 0
+IsLogAfter settings earlier [] log = log ≡ earlier
+IsLogAfter settings earlier (item ∷ items) log = (added : Option Event) × Adds settings earlier item added × IsLogAfter settings (log_with earlier added) items log
 
 -- a log without events
 abbrev pub empty_log : ℕ → History
@@ -43,7 +47,7 @@ empty_log start = record { start = start; events = [] }
 
 -- the log of all items
 abbrev pub IsReplayLog : Settings → ℕ → List Item → History → Type 0
-IsReplayLog settings start items log = IsLogBehind settings (empty_log start) items log
+IsReplayLog settings start items log = IsLogAfter settings (empty_log start) items log
 
 -- ---- the editions
 
@@ -73,13 +77,14 @@ pub record IsOutput (settings : Settings) (log : History) (octets : List ℕ) : 
 
 -- Under the settings the octets have this output, these counts and this first fault: they are read as items, and the output is that of the items' log.
 pub record Replays (settings : Settings) (octets output : List ℕ) (counts : Counts) (fault : Option ℕ) : Type 0 where
+  pub header : Option Header
   pub start : ℕ
   pub items : List Item
-  pub reading : IsRead octets start items fault
+  pub reading : IsInput octets header start items fault
   pub log : History
   pub log_is : IsReplayLog settings start items log
   pub output_is : IsOutput settings log output
-  pub counts_are : counts ≡ counts_of items log
+  pub counts_are : counts ≡ counts_of (tells_biases octets) items log
 
 pub record HasReplay (settings : Settings) (octets : List ℕ) : Type 0 where
   pub output : List ℕ

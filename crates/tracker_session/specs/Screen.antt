@@ -1,5 +1,5 @@
 -- What the screen says at the end of a command: one line for each way to end.
-use Rattle.std.specs.Prelude.{ℕ, List, [], ◌++◌, codes}
+use Rattle.std.specs.Prelude.{ℕ, List, [], ◌++◌, codes, if◌then◌else◌}
 use Rattle.std.specs.Fmt.{decimal}
 use Rattle.settings_text.specs.Texts.{fault_text}
 use Rattle.tracker_session.specs.declared.screen.Counts.{Counts}
@@ -29,10 +29,6 @@ status_line (Write spot) = spot_line (codes "write") spot
 status_line Memory = codes "no memory\n"
 status_line (NotProved index offset) = codes "not proved: certificate " ++ (decimal index ++ (codes " at offset " ++ (decimal offset ++ codes "\n")))
 
--- the counts of a replay that has taken no item
-abbrev pub no_counts : Counts
-no_counts = record { editions = 0; admitted = 0; unknown = 0; early = 0; ahead = 0; not_plots = 0; malformed = 0; other = 0; old = 0 }
-
 -- what came of the plots of a replay
 abbrev pub plots_text : Counts → List ℕ
 plots_text c =
@@ -49,9 +45,13 @@ others_text c =
     ++ (codes " other " ++ (decimal c.other
     ++ (codes " old " ++ decimal c.old))))))
 
+-- what came of the changes of biases, where the input can have any
+abbrev pub biases_text : Counts → List ℕ
+biases_text c = if c.tells_biases then codes " biases " ++ (decimal c.biases ++ (codes " refused " ++ decimal c.refused)) else []
+
 -- the line of a replay that was done
 abbrev pub counts_line : Counts → List ℕ
-counts_line c = codes "editions " ++ (decimal c.editions ++ (codes " " ++ (plots_text c ++ (codes " " ++ (others_text c ++ codes "\n")))))
+counts_line c = codes "editions " ++ (decimal c.editions ++ (codes " " ++ (plots_text c ++ (codes " " ++ (others_text c ++ (biases_text c ++ codes "\n"))))))
 
 -- the line of a price file whose certificates all prove
 abbrev pub proved_line : ℕ → List ℕ

@@ -1,6 +1,7 @@
 // The commands, in the order of their steps.
-ghost use Rattle.std.specs.Prelude.{◌≡◌, ◌⊎◌, ℕ, List, None, IfOk, string_bytes};
-ghost use Rattle.io_traits.specs.Host.{WritesOnly};
+ghost use Rattle.std.specs.Prelude.{◌≡◌, ◌⊎◌, ◌∷◌, [], ℕ, List, None, IfOk, string_bytes};
+
+ghost use Rattle.io_traits.specs.Touching.{Touches};
 ghost use Rattle.io_traits.specs.declared.host.Place.{Place};
 ghost use Rattle.tracker_session.specs.declared.status.Status.{Status};
 ghost use Rattle.tracker_session.specs.CheckEnds.{CommandEnded, EndOfCheck};
@@ -11,14 +12,13 @@ ghost use Rattle.tracker_session.specs.Telling.{LineTold, Told};
 ghost use Rattle.tracker_session.specs.Words.{AreCommand, IsCheck, IsReplay, texts};
 
 use crate::checking::check_prices;
-use crate::reading::{judge, open_output, read_place};
+use crate::reading::{open_output, read_file, settings_of};
 use crate::replay::replay;
 use crate::screen::{Counts, counts_line, proved_line, status_line};
 use crate::status::{Spot, Status};
-use crate::streams::write_all;
 use crate::words::{Command, WordsError, parse_words};
 use admission_log::Settings;
-use io_traits::{Failed, Host, Place};
+use io_traits::{Failed, Host, Place, write_all};
 use std::alloc::{AllocError, Global};
 use std::thread::Threads;
 
@@ -40,7 +40,7 @@ fn replay_under<H: Host>(
     requires output { (H.state host.old).bound Place.Output ≡ None }
     ensures { RanUnder settings.now (string_bytes input) (string_bytes output) result (H.state host.old) (H.state host.new) }
 {
-    let octets = read_place(alloc, Place::Input, input, host)?;
+    let octets = read_file(alloc, Place::Input, input, host)?;
     open_output(output, host)?;
     replay(alloc, settings, &octets, host)
 }
@@ -56,8 +56,8 @@ fn run_replay<H: Host>(
     requires { (p : Place) → (H.state host.old).bound p ≡ None }
     ensures { Ran (string_bytes settings) (string_bytes input) (string_bytes output) result (H.state host.old) (H.state host.new) }
 {
-    let octets = read_place(alloc, Place::Settings, settings, host)?;
-    let settings = judge(alloc, &octets)?;
+    let octets = read_file(alloc, Place::Settings, settings, host)?;
+    let settings = settings_of(alloc, &octets)?;
     replay_under(alloc, &settings, input, output, host)
 }
 
@@ -65,7 +65,7 @@ fn run_replay<H: Host>(
 fn tell<H: Host>(alloc: Global, status: Status, host: &mut H) -> Status
     ensures status { (result ≡ status) ⊎ (result ≡ Status.Memory) }
     ensures told { Told (status_line result) (H.state host.old) (H.state host.new) }
-    ensures uses { WritesOnly Place.Screen (H.state host.old) (H.state host.new) }
+    ensures touches { Touches [] [] (Place.Screen ∷ []) (H.state host.old) (H.state host.new) }
 {
     match status_line(alloc, &status) {
         Ok(line) => {
@@ -82,7 +82,7 @@ fn tell<H: Host>(alloc: Global, status: Status, host: &mut H) -> Status
 // Writes the line of a command that was done to Screen.
 fn tell_done<H: Host>(line: Result<String, AllocError>, host: &mut H) -> Status
     ensures told { (text : List ℕ) → IfOk line (λ s. string_bytes s ≡ text) → LineTold text result (H.state host.old) (H.state host.new) }
-    ensures uses { WritesOnly Place.Screen (H.state host.old) (H.state host.new) }
+    ensures touches { Touches [] [] (Place.Screen ∷ []) (H.state host.old) (H.state host.new) }
 {
     let Ok(line) = line else {
         let _ = write_all(host, Place::Screen, NO_MEMORY);
@@ -153,7 +153,7 @@ fn run_command<R: Threads + Sync, H: Host>(
 }
 
 /// Carries out the command that the words are, over places of which none is bound yet. Threads may be
-/// started; none is left behind, and none is waited for but those.
+/// started; none outlives the call, and none is waited for but those.
 ///
 /// `replay SETTINGS INPUT OUTPUT PRICES` reads the settings, and then what Input is bound to, a
 /// recording or data blocks alone. Each datagram is admitted to one log, and each tick above the last one

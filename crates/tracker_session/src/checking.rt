@@ -6,15 +6,13 @@ ghost use Rattle.price_form.specs.Files.{IsRecord};
 ghost use Rattle.tracker_session.specs.Checking.{IsFile, IsProved};
 ghost use Rattle.tracker_session.specs.CheckRuns.{CheckRan, Judged, RecordsProve, StopsProving, StopsTaking};
 
-use crate::reading::read_place;
+use crate::reading::read_file;
 use crate::status::Status;
-use crate::streams::LIMIT;
-use io_traits::{Host, Place};
+use io_traits::{Host, PLACE_LIMIT, Place};
 use price_form::{PriceRecord, PricesError, check, prefix_fault, read_prices};
 use rayon::prelude::*;
 use std::alloc::{AllocError, Global};
 use std::thread::Threads;
-use trk_base::NoMemory;
 
 /// Binds Prices and reads it, and judges what it had: how many certificates there are, all of which
 /// prove, or the status of what is wrong.
@@ -27,7 +25,7 @@ pub fn check_prices<R: Threads + Sync, H: Host>(
     requires { (H.state host.old).bound Place.Prices ≡ None }
     ensures { CheckRan (string_bytes prices) result (H.state host.old) (H.state host.new) }
 {
-    let octets = read_place(alloc, Place::Prices, prices, host)?;
+    let octets = read_file(alloc, Place::Prices, prices, host)?;
     judge_prices(rt, alloc, &octets)
 }
 
@@ -47,11 +45,9 @@ fn take_records(alloc: Global, octets: &[u8]) -> Result<Vec<PriceRecord>, Status
     ensures file { IfOk result (λ v. IsFile octets.now v.items) }
     ensures stops { IfErr result (StopsTaking octets.now) }
 {
-    if octets.len() > LIMIT {
-        return match prefix_fault(alloc, &octets[..LIMIT]) {
-            Ok(offset) => Err(Status::Input { offset }),
-            Err(NoMemory) => Err(Status::Memory),
-        };
+    if octets.len() > PLACE_LIMIT {
+        let offset = prefix_fault(&octets[..PLACE_LIMIT]);
+        return Err(Status::Input { offset });
     }
     match read_prices(alloc, octets) {
         Ok(records) => Ok(records),

@@ -1,9 +1,10 @@
 // Laws of the definitions that the top call's clauses cite.
 ghost use Rattle.std.specs.Prelude.{◌≡◌, ◌<◌, ◌-◌, ℕ, List, All, Option, count_by};
 ghost use Rattle.admission_log.specs.declared.settings.Settings.{Settings};
+ghost use Rattle.recording.specs.declared.header.Header.{Header};
 ghost use Rattle.recording.specs.Items.{Item};
 ghost use Rattle.tracker_session.specs.Checking.{Checks, HasVerdict, Verdict};
-ghost use Rattle.tracker_session.specs.Inputs.{HasReading, IsRead};
+ghost use Rattle.tracker_session.specs.Inputs.{HasInput, IsInput};
 ghost use Rattle.admission_log.specs.Histories.{History};
 ghost use Rattle.tracker_session.specs.Counting.{is_datagram, is_delivery};
 ghost use Rattle.tracker_session.specs.Faulty.{HaveFaults};
@@ -11,9 +12,9 @@ ghost use Rattle.tracker_session.specs.Replay.{HasReplay, IsReplayLog, Replays};
 ghost use Rattle.tracker_session.specs.declared.screen.Counts.{Counts};
 
 /// An input has exactly one reading, whether or not it passes the limit.
-pub fn one_reading()
-    ensures some { (octets : List ℕ) → All (λ octet. octet < 256) octets → HasReading octets }
-    ensures one { (octets : List ℕ) (s t : ℕ) (xs ys : List Item) (f g : Option ℕ) → IsRead octets s xs f → IsRead octets t ys g → (s ≡ t) × (xs ≡ ys) × (f ≡ g) }
+pub fn one_input()
+    ensures some { (octets : List ℕ) → All (λ octet. octet < 256) octets → HasInput octets }
+    ensures one { (octets : List ℕ) (g h : Option Header) (s t : ℕ) (xs ys : List Item) (f k : Option ℕ) → IsInput octets g s xs f → IsInput octets h t ys k → (g ≡ h) × (s ≡ t) × (xs ≡ ys) × (f ≡ k) }
 {}
 
 /// Under settings octets have exactly one replay: one output, one list of counts, and one fault or none.

@@ -5,17 +5,15 @@ mod batch;
 mod checking;
 mod laws;
 mod picture;
-mod plots;
 mod reading;
 mod replay;
 mod screen;
 mod status;
-mod streams;
 mod tally;
 mod words;
 
 pub use batch::run_batch;
-pub use laws::{malformed_datagrams, one_check, one_reading, one_replay};
+pub use laws::{malformed_datagrams, one_check, one_input, one_replay};
 pub use status::{Spot, Status};
 pub use words::{Command, WordsError, parse_words};
 

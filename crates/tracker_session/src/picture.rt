@@ -1,7 +1,7 @@
 // The thin picture: a CAT062 record for each plot of the log.
 ghost use Rattle.std.specs.Prelude.{◌≡◌, ◌≤◌, ◌++◌, ◌∷◌, [], ℕ, List, length, true, unsigned_abs, IfOk};
 ghost use Rattle.tracker_session.specs.Picture.{AreBlocksOf, half_metres, is_shown, signed, track_record, track_records};
-ghost use Rattle.tracker_session.specs.Setting.{IsSetting};
+ghost use Rattle.tracker_session.specs.Packing.{IsPacking};
 
 use admission_log::Settings;
 use asterix_frame::BlockWriter;
@@ -68,7 +68,7 @@ struct Setting {
 
 impl Setting {
     fn new(alloc: Global) -> Self
-        ensures { IsSetting [] result.full.items result.last }
+        ensures { IsPacking [] result.full.items result.last }
     {
         Setting {
             full: Vec::new(alloc),
@@ -76,10 +76,10 @@ impl Setting {
         }
     }
 
-    // Puts a record behind the others.
+    // Puts a record after the others.
     fn add(self, alloc: Global, octets: &[u8]) -> Result<Setting, NoMemory>
         requires { length octets.now ≡ 16 }
-        ensures { IfOk result (λ s. (records : List (List ℕ)) → IsSetting records self.full.items self.last → IsSetting (records ++ octets.now ∷ []) s.full.items s.last) }
+        ensures { IfOk result (λ s. (records : List (List ℕ)) → IsPacking records self.full.items self.last → IsPacking (records ++ octets.now ∷ []) s.full.items s.last) }
     {
         let Setting { mut full, mut last } = self;
         if last.append(octets)? {
@@ -93,7 +93,7 @@ impl Setting {
 
     // The octets of all blocks.
     fn finish(self) -> Result<Vec<u8>, NoMemory>
-        ensures { IfOk result (λ v. (records : List (List ℕ)) → IsSetting records self.full.items self.last → AreBlocksOf records v.items) }
+        ensures { IfOk result (λ v. (records : List (List ℕ)) → IsPacking records self.full.items self.last → AreBlocksOf records v.items) }
     {
         let Setting { mut full, last } = self;
         full.extend_from_slice(&last.finish())?;

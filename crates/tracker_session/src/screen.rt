@@ -1,6 +1,7 @@
 // What the screen says at the end of a command.
 ghost use Rattle.std.specs.Prelude.{◌≡◌, IfOk, string_bytes};
-ghost use Rattle.tracker_session.specs.Screen.{counts_line, no_counts, plots_text, others_text, proved_line, spot_line, status_line};
+ghost use Rattle.tracker_session.specs.Counting.{no_counts};
+ghost use Rattle.tracker_session.specs.Screen.{biases_text, counts_line, plots_text, others_text, proved_line, spot_line, status_line};
 
 use crate::status::{Spot, Status};
 use std::alloc::{AllocError, Global};
@@ -26,12 +27,18 @@ pub struct Counts {
     pub other: u64,
     /// The ticks that weren't above the last one.
     pub old: u64,
+    /// Whether the input can have changes of biases, so that the line tells them.
+    pub tells_biases: bool,
+    /// The changes of biases that were taken.
+    pub biases: u64,
+    /// The changes of biases of no radar, or before the horizon.
+    pub refused: u64,
 }
 
 impl Counts {
     /// Those of a replay that has taken no item.
-    pub fn none() -> Counts
-        ensures { result ≡ no_counts }
+    pub fn none(tells_biases: bool) -> Counts
+        ensures { result ≡ no_counts tells_biases }
     {
         Counts {
             editions: 0,
@@ -43,6 +50,9 @@ impl Counts {
             malformed: 0,
             other: 0,
             old: 0,
+            tells_biases,
+            biases: 0,
+            refused: 0,
         }
     }
 }
@@ -54,7 +64,8 @@ pub fn counts_line(alloc: Global, counts: &Counts) -> Result<String, AllocError>
     let editions = counts.editions;
     let plots = plots_text(alloc, counts)?;
     let others = others_text(alloc, counts)?;
-    format!(in alloc; "editions {editions} {plots} {others}\n")
+    let biases = biases_text(alloc, counts)?;
+    format!(in alloc; "editions {editions} {plots} {others}{biases}\n")
 }
 
 // What came of the plots of a replay.
@@ -83,6 +94,19 @@ fn others_text(alloc: Global, counts: &Counts) -> Result<String, AllocError>
         ..
     } = *counts;
     format!(in alloc; "notplots {not_plots} malformed {malformed} other {other} old {old}")
+}
+
+// What came of the changes of biases, where the input can have any.
+fn biases_text(alloc: Global, counts: &Counts) -> Result<String, AllocError>
+    ensures { IfOk result (λ s. string_bytes s ≡ biases_text counts.now) }
+{
+    if !counts.tells_biases {
+        return Ok(String::new(alloc));
+    }
+    let Counts {
+        biases, refused, ..
+    } = *counts;
+    format!(in alloc; " biases {biases} refused {refused}")
 }
 
 /// The line of a price file whose certificates, so many, all prove.

@@ -1,8 +1,7 @@
 // What became of the items of a replay, counted.
 ghost use Rattle.std.specs.Prelude.{◌≡◌, ◌+◌, ◌++◌, ◌∷◌, [], List};
 ghost use Rattle.admission_log.specs.declared.events.Event.{Event};
-ghost use Rattle.tracker_session.specs.Counting.{counted, others_in};
-ghost use Rattle.tracker_session.specs.Tallies.{with_outcome, with_outcomes};
+ghost use Rattle.tracker_session.specs.Counting.{counted, others_in, with_told};
 
 use crate::screen::Counts;
 use admission_log::{Event, Log, Outcome};
@@ -16,7 +15,7 @@ pub fn more(count: u64, added: u64) -> u64
 
 /// Counts what was told of the messages of a datagram.
 pub fn count_outcomes(counts: &mut Counts, outcomes: &[Outcome])
-    ensures { counts.exit.now ≡ with_outcomes outcomes.now counts.entry.now }
+    ensures { counts.exit.now ≡ with_told outcomes.now counts.entry.now }
 {
     for outcome in outcomes {
         count_outcome(counts, outcome);
@@ -25,7 +24,7 @@ pub fn count_outcomes(counts: &mut Counts, outcomes: &[Outcome])
 
 // Counts what was told of a message. Services aren't counted.
 fn count_outcome(counts: &mut Counts, outcome: &Outcome)
-    ensures { counts.exit.now ≡ with_outcome counts.entry.now outcome.now }
+    ensures { counts.exit.now ≡ with_told (outcome.now ∷ []) counts.entry.now }
 {
     match outcome {
         Outcome::Admitted(_) => counts.admitted = more(counts.admitted, 1),
@@ -39,7 +38,7 @@ fn count_outcome(counts: &mut Counts, outcome: &Outcome)
 
 /// How many blocks the last event of a log passed over.
 pub fn others_in_last(log: &Log) -> u64
-    ensures { (front : List Event) (event : Event) → log.now.events ≡ front ++ event ∷ [] → result ≡ others_in event }
+    ensures { (before : List Event) (event : Event) → log.now.events ≡ before ++ event ∷ [] → result ≡ others_in event }
 {
     match log.events().last() {
         Some(Event::Deliver { other, .. }) => u64::from(*other),

@@ -7,8 +7,8 @@ returns-in_err-octets g c =
     let is : c.from_residual.result ≡ Err c.in_err-octets.field-0.0 = search rules in
     record {
       came = inl (record { status = c.in_err-octets.field-0.0; is = is; stops = c.in_err-octets.ensures.stops });
-      bound = c.read_place.ensures.bound;
-      uses = c.read_place.ensures.uses;
+      bound = inr c.read_file.ensures.bound;
+      touches = c.read_file.ensures.touches;
     }
 
 pub returns : goal.returns
@@ -19,6 +19,6 @@ returns g c =
         read = c.in_ok-octets.ensures.read;
         judged = subst (λ (o : List ℕ). Judged o c.judge_prices.result) c.deref.ensures.value c.judge_prices.ensures;
       });
-      bound = c.read_place.ensures.bound;
-      uses = c.read_place.ensures.uses;
+      bound = inr c.read_file.ensures.bound;
+      touches = c.read_file.ensures.touches;
     }

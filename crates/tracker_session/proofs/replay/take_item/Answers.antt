@@ -1,7 +1,7 @@
 use Rattle.std.proofs.Common.{rules, ◌≡◌, ap, sym, subst, Result, Ok, Err, true, false}
 use Rattle.std.specs.Prelude.{OnErr, OnOk}
 use Rattle.recording.specs.Answers.{item_of}
-use Rattle.recording.specs.Items.{Item, datagram, tick}
+use Rattle.recording.specs.Items.{Item, datagram, tick, bias}
 use Rattle.tracker_session.specs.Steps.{Breaks, Takes}
 use Rattle.tracker_session.proofs.Stepping.{silently, tick_takes, tick_breaks, last_ticked}
 use Rattle.tracker_session.proofs.replay.take_item.Goals as goal
@@ -23,18 +23,25 @@ returns-in-Datagram-clause-taken g c =
     subst (λ (i : Item). OnOk c.admit.result (Takes c.args.settings.now i c.args.run.now c.admit.new.self host host)) (sym item)
     (on_ok c.admit.result (silently c.args.settings.now (datagram feed octets) c.args.run.now c.admit.new.self host) c.admit.ensures.taken)
 
+pub returns-in-Bias-clause-taken : goal.returns-in-Bias-clause-taken
+returns-in-Bias-clause-taken g c =
+    let host = g.H.Host.state c.args.host.now in
+    let item = ap item_of c.in-Bias.is in
+    subst (λ (i : Item). OnOk c.change_biases.result (Takes c.args.settings.now i c.args.run.now c.change_biases.new.self host host)) (sym item)
+    (on_ok c.change_biases.result (silently c.args.settings.now (bias c.in-Bias.radar c.in-Bias.slot c.in-Bias.bias) c.args.run.now c.change_biases.new.self host) c.change_biases.ensures.taken)
+
 pub write_edition-requires-clause-last : goal.write_edition-requires-clause-last
 write_edition-requires-clause-last g c =
     let yes : c.tick.result ≡ Ok true = search rules in
-    last_ticked c.in-Tick.time c.args.run.now c.tick.new.self (c.tick.ensures.taken yes)
+    last_ticked c.args.settings.now c.in-Tick.time c.args.run.now c.tick.new.self (c.tick.ensures.taken yes c.args.settings.now)
 
-pub returns-in_err-write_edition-in-Tick-clause-front : goal.returns-in_err-write_edition-in-Tick-clause-front
-returns-in_err-write_edition-in-Tick-clause-front g c =
+pub returns-in_err-write_edition-in-Tick-clause-prefix : goal.returns-in_err-write_edition-in-Tick-clause-prefix
+returns-in_err-write_edition-in-Tick-clause-prefix g c =
     let state = g.H.Host.state in
     let yes : c.tick.result ≡ Ok true = search rules in
     let item = ap item_of c.in-Tick.is in
     on_err c.from_residual-in_err-write_edition-in-Tick.result (subst (λ (i : Item). Breaks c.args.settings.now i c.args.run.now (state c.args.host.now) (state c.write_edition.new.host)) (sym item)
-    (tick_breaks c.args.settings.now c.in-Tick.time c.args.run.now c.tick.new.self (state c.args.host.now) (state c.write_edition.new.host) (c.tick.ensures.taken yes) c.in_err-write_edition-in-Tick.ensures.front))
+    (tick_breaks c.args.settings.now c.in-Tick.time c.args.run.now c.tick.new.self (state c.args.host.now) (state c.write_edition.new.host) (c.tick.ensures.taken yes c.args.settings.now) c.in_err-write_edition-in-Tick.ensures.prefix))
 
 pub returns-in_ok-write_edition-in-Tick-clause-taken : goal.returns-in_ok-write_edition-in-Tick-clause-taken
 returns-in_ok-write_edition-in-Tick-clause-taken g c =
@@ -42,7 +49,7 @@ returns-in_ok-write_edition-in-Tick-clause-taken g c =
     let yes : c.tick.result ≡ Ok true = search rules in
     let item = ap item_of c.in-Tick.is in
     subst (λ (i : Item). Takes c.args.settings.now i c.args.run.now c.tick.new.self (state c.args.host.now) (state c.write_edition.new.host)) (sym item)
-    (tick_takes c.args.settings.now c.in-Tick.time c.args.run.now c.tick.new.self (state c.args.host.now) (state c.write_edition.new.host) (c.tick.ensures.taken yes) c.in_ok-write_edition-in-Tick.ensures.ok)
+    (tick_takes c.args.settings.now c.in-Tick.time c.args.run.now c.tick.new.self (state c.args.host.now) (state c.write_edition.new.host) (c.tick.ensures.taken yes c.args.settings.now) c.in_ok-write_edition-in-Tick.ensures.ok)
 
 pub returns-else-branch-clause-taken : goal.returns-else-branch-clause-taken
 returns-else-branch-clause-taken g c =

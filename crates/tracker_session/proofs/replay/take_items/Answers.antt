@@ -1,7 +1,7 @@
-use Rattle.std.proofs.Common.{rules, ◌∙◌, ◌≤◌, refl, Result, Ok, Err, length}
+use Rattle.std.proofs.Common.{rules, ◌∙◌, ◌≤◌, [], ◌∷◌, refl, Result, Ok, Err, length}
 use Rattle.std.specs.Prelude.{OnErr}
 use Rattle.io_traits.specs.declared.host.Place.TheVariants as places
-use Rattle.io_traits.proofs.Frames.{WritesOnly_refl, WritesOnly_trans}
+use Rattle.io_traits.proofs.Touching.{Touches_refl, Touches_trans}
 use Rattle.recording.specs.Answers.{items_of}
 use Rattle.tracker_session.proofs.Stepping.{item_fits, item_here, items_count, items_end, progress_none, progress_more, progress_stops, progress_whole}
 use Rattle.tracker_session.proofs.replay.take_items.Goals as goal
@@ -15,19 +15,19 @@ loop-item-init g c =
     let host = g.H.Host.state c.args.host.now in
     record {
       bound = c.requires.bound;
-      progress = progress_none c.args.settings.now (items_of c.args.items.now) c.args.start (record { log = c.new.result; counts = c.none.result }) host c.new.ensures.empty c.none.ensures;
+      progress = progress_none c.args.settings.now c.args.tells_biases (items_of c.args.items.now) c.args.start (record { log = c.new.result; counts = c.none.result }) host c.new.ensures.empty c.none.ensures;
       faults = refl;
-      uses = WritesOnly_refl places.Output host;
+      touches = Touches_refl [] [] (places.Output ∷ []) host;
     }
 
 pub take_item-requires-clause-fits : goal.take_item-requires-clause-fits
 take_item-requires-clause-fits g c = item_fits c.args.items.now c.loop-item.item-index _ c.loop-item-test.true c.requires.fits
 
-pub returns-in_err-take_item-clause-front : goal.returns-in_err-take_item-clause-front
-returns-in_err-take_item-clause-front g c =
+pub returns-in_err-take_item-clause-prefix : goal.returns-in_err-take_item-clause-prefix
+returns-in_err-take_item-clause-prefix g c =
     let state = g.H.Host.state in
     let lt = c.loop-item-test.true in
-    on_err c.from_residual.result (progress_stops c.args.settings.now (items_of c.args.items.now) c.args.start c.loop-item.run c.loop-item.item-index _ (state c.args.host.now) (state c.loop-item.host) (state c.take_item.new.host) c.loop-item.invariant.progress (items_count c.args.items.now c.loop-item.item-index lt) (item_here c.args.items.now c.loop-item.item-index _ _ lt) c.in_err-take_item.ensures.front)
+    on_err c.from_residual.result (progress_stops c.args.settings.now c.args.tells_biases (items_of c.args.items.now) c.args.start c.loop-item.run c.loop-item.item-index _ (state c.args.host.now) (state c.loop-item.host) (state c.take_item.new.host) c.loop-item.invariant.progress (items_count c.args.items.now c.loop-item.item-index lt) (item_here c.args.items.now c.loop-item.item-index _ _ lt) c.in_err-take_item.ensures.prefix)
 
 pub loop-item-preserved : goal.loop-item-preserved
 loop-item-preserved g c =
@@ -36,13 +36,13 @@ loop-item-preserved g c =
     let lt = c.loop-item-test.true in
     record {
       bound = search rules;
-      progress = progress_more c.args.settings.now (items_of c.args.items.now) c.args.start c.loop-item.run c.take_item.new.run c.loop-item.item-index _ (state c.args.host.now) (state c.loop-item.host) (state c.take_item.new.host) inv.progress (items_count c.args.items.now c.loop-item.item-index lt) (item_here c.args.items.now c.loop-item.item-index _ _ lt) c.in_ok-take_item.ensures.taken;
+      progress = progress_more c.args.settings.now c.args.tells_biases (items_of c.args.items.now) c.args.start c.loop-item.run c.take_item.new.run c.loop-item.item-index _ (state c.args.host.now) (state c.loop-item.host) (state c.take_item.new.host) inv.progress (items_count c.args.items.now c.loop-item.item-index lt) (item_here c.args.items.now c.loop-item.item-index _ _ lt) c.in_ok-take_item.ensures.taken;
       faults = c.in_ok-take_item.ensures.kept ∙ inv.faults;
-      uses = WritesOnly_trans inv.uses c.take_item.ensures.uses;
+      touches = Touches_trans [] [] (places.Output ∷ []) _ _ _ inv.touches c.take_item.ensures.touches;
     }
 
 pub returns-clause-ended : goal.returns-clause-ended
 returns-clause-ended g c =
     let state = g.H.Host.state in
     let all : length c.args.items.now ≤ c.loop-item.item-index = search rules in
-    progress_whole c.args.settings.now (items_of c.args.items.now) c.args.start c.loop-item.run c.loop-item.item-index (state c.args.host.now) (state c.loop-item.host) c.loop-item.invariant.progress (items_end c.args.items.now c.loop-item.item-index all)
+    progress_whole c.args.settings.now c.args.tells_biases (items_of c.args.items.now) c.args.start c.loop-item.run c.loop-item.item-index (state c.args.host.now) (state c.loop-item.host) c.loop-item.invariant.progress (items_end c.args.items.now c.loop-item.item-index all)

@@ -1,7 +1,7 @@
 use Rattle.std.proofs.Common.{rules, ◌≡◌, ◌<◌, ◌≤◌, ◌+◌, ◌++◌, ap, ◌∙◌, subst, ℕ, List, length, arith, Bool, true, false, Ok, inl, inr, if◌then◌else◌}
 use Rattle.std.proofs.lemmas.Bool.{cases_lt}
-use Rattle.asterix_frame.specs.Blocks.{DataBlock, spelled}
-use Rattle.tracker_session.proofs.Settings.{setting_grow, setting_next}
+use Rattle.asterix_frame.specs.Blocks.{DataBlock, encoded}
+use Rattle.tracker_session.proofs.Packings.{setting_grow, setting_next}
 use Rattle.tracker_session.proofs.picture.Setting.add.Goals as goal
 
 -- a block with room took the record
@@ -30,4 +30,4 @@ returns c = λ records s.
     let begun : c.append-2.new.self ≡ record c.new-next.result { body = c.new-next.result.body ++ c.args.octets.now } =
     took c.in_ok-append-2.field-0 c.new-next.result c.append-2.new.self c.args.octets.now
     (λ no. c.append-2.ensures.full.0 (c.in_ok-append-2.was ∙ ap Ok no)) (omega (arith, ap (λ (b : DataBlock). length b.body) empty)) c.in_ok-append-2.ensures.added in
-    rw (items, begun, empty) (setting_next records c.args.self.full.items c.finish.result.items block c.args.octets.now s (omega arith) (omega arith) over (subst (λ (b : DataBlock). 0 < length b.body → c.finish.result.items ≡ spelled b) unchanged c.finish.ensures.block))
+    rw (items, begun, empty) (setting_next records c.args.self.full.items c.finish.result.items block c.args.octets.now s (omega arith) (omega arith) over (subst (λ (b : DataBlock). 0 < length b.body → c.finish.result.items ≡ encoded b) unchanged c.finish.ensures.block))

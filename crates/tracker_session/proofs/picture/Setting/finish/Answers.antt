@@ -1,5 +1,5 @@
 use Rattle.std.proofs.Common.{◌++◌, rules, ◌≡◌}
-use Rattle.tracker_session.proofs.Settings.{setting_end}
+use Rattle.tracker_session.proofs.Packings.{setting_end}
 use Rattle.tracker_session.proofs.picture.Setting.finish.Goals as goal
 
 pub returns : goal.returns

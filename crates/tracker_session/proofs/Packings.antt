@@ -5,10 +5,10 @@ use Rattle.std.proofs.lemmas.List.Folds.{concat-append}
 use Rattle.std.proofs.lemmas.List.Concat.{flat_map-append}
 use Rattle.asterix_frame.specs.Blocks.{DataBlock}
 use Rattle.asterix_frame.specs.Blocks as frame
-use Rattle.asterix_frame.specs.Groups.{ungrouped}
-use Rattle.asterix_frame.proofs.Settings.{filled_first, filled_grow, filled_open}
+use Rattle.asterix_frame.specs.Packing.{ungrouped}
+use Rattle.asterix_frame.proofs.Packings.{filled_first, filled_grow, filled_open}
 use Rattle.tracker_session.specs.Picture.{block_of, AreBlocksOf}
-use Rattle.tracker_session.specs.Setting.{IsSetting}
+use Rattle.tracker_session.specs.Packing.{IsPacking}
 
 abbrev Body : List ℕ → DataBlock
 Body octets = record { category = 62; body = octets }
@@ -26,7 +26,7 @@ size_of : (block : DataBlock) (last : List (List ℕ)) → block ≡ Body (conca
 size_of block last e = ap (λ b. length b.body) e
 
 -- the last block takes the record
-pub setting_grow : (records : List (List ℕ)) (full : List ℕ) (block : DataBlock) (r : List ℕ) → IsSetting records full block → 0 < length r → length block.body + length r + 3 ≤ 1400 → IsSetting (records ++ r ∷ []) full (record block { body = block.body ++ r })
+pub setting_grow : (records : List (List ℕ)) (full : List ℕ) (block : DataBlock) (r : List ℕ) → IsPacking records full block → 0 < length r → length block.body + length r + 3 ≤ 1400 → IsPacking (records ++ r ∷ []) full (record block { body = block.body ++ r })
 setting_grow records full block r s some room =
     let size = size_of block s.last s.block_is in
     record {
@@ -45,11 +45,11 @@ setting_grow records full block r s some room =
     }
 
 -- what the last block spells
-pub spelled_last : (records : List (List ℕ)) (full : List ℕ) (block : DataBlock) (octets : List ℕ) (s : IsSetting records full block) → octets ≡ frame.spelled block → octets ≡ block_of s.last
-spelled_last records full block octets s e = e ∙ ap frame.spelled s.block_is
+pub spelled_last : (records : List (List ℕ)) (full : List ℕ) (block : DataBlock) (octets : List ℕ) (s : IsPacking records full block) → octets ≡ frame.encoded block → octets ≡ block_of s.last
+spelled_last records full block octets s e = e ∙ ap frame.encoded s.block_is
 
 -- the record begins a new one
-pub setting_next : (records : List (List ℕ)) (full octets : List ℕ) (block : DataBlock) (r : List ℕ) → IsSetting records full block → 0 < length r → length r + 3 ≤ 1400 → 1400 < length block.body + length r + 3 → (0 < length block.body → octets ≡ frame.spelled block) → IsSetting (records ++ r ∷ []) (full ++ octets) (Body r)
+pub setting_next : (records : List (List ℕ)) (full octets : List ℕ) (block : DataBlock) (r : List ℕ) → IsPacking records full block → 0 < length r → length r + 3 ≤ 1400 → 1400 < length block.body + length r + 3 → (0 < length block.body → octets ≡ frame.encoded block) → IsPacking (records ++ r ∷ []) (full ++ octets) (Body r)
 setting_next records full octets block r s some small over spells =
     let size = size_of block s.last s.block_is in
     let nonempty : 0 < length (concat (r ∷ [])) = rw (append-nil r) some in
@@ -66,7 +66,7 @@ setting_next records full octets block r s some small over spells =
     ]
 
 -- the last block closes the setting
-pub setting_end : (records : List (List ℕ)) (full octets : List ℕ) (block : DataBlock) → IsSetting records full block → (block.body ≡ [] → octets ≡ []) → (0 < length block.body → octets ≡ frame.spelled block) → AreBlocksOf records (full ++ octets)
+pub setting_end : (records : List (List ℕ)) (full octets : List ℕ) (block : DataBlock) → IsPacking records full block → (block.body ≡ [] → octets ≡ []) → (0 < length block.body → octets ≡ frame.encoded block) → AreBlocksOf records (full ++ octets)
 setting_end records full octets block s empty spells =
     let size = size_of block s.last s.block_is in
     elim s.filled [
@@ -74,12 +74,12 @@ setting_end records full octets block s empty spells =
         groups = [];
         filled = tt;
         all = rw (none.0, none.1) at s.all;
-        spelled = ap (λ t. t ++ octets) (s.full_is ∙ ap (flat_map block_of) none.0) ∙ empty (ap (λ b. b.body) s.block_is ∙ ap concat none.1);
+        encoded = ap (λ t. t ++ octets) (s.full_is ∙ ap (flat_map block_of) none.0) ∙ empty (ap (λ b. b.body) s.block_is ∙ ap concat none.1);
       }
       | inr filled ↦ record {
         groups = s.groups ++ s.last ∷ [];
         filled = filled.0;
         all = ungrouped_push s.groups s.last ∙ s.all;
-        spelled = ap (λ t. t ++ octets) s.full_is ∙ ap (λ t. flat_map block_of s.groups ++ t) (spelled_last records full block octets s (spells (omega (arith, size)))) ∙ sym (blocks_push s.groups s.last);
+        encoded = ap (λ t. t ++ octets) s.full_is ∙ ap (λ t. flat_map block_of s.groups ++ t) (spelled_last records full block octets s (spells (omega (arith, size)))) ∙ sym (blocks_push s.groups s.last);
       }
     ]

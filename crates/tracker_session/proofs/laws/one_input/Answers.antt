@@ -1,5 +1,5 @@
 use Rattle.tracker_session.proofs.Inputs.{one_read, some_read}
-use Rattle.tracker_session.proofs.laws.one_reading.Goals as goal
+use Rattle.tracker_session.proofs.laws.one_input.Goals as goal
 
 pub returns-clause-some : goal.returns-clause-some
 returns-clause-some c = some_read

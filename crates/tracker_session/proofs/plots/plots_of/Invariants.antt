@@ -1,9 +1,0 @@
-use Rattle.std.proofs.Common.{◌≡◌, take}
-use Rattle.std.specs.Prelude.{filter_map}
-use Rattle.std.specs.List.{flat_map}
-use Rattle.admission_log.specs.Histories.{admitted_in}
-use Rattle.tracker_session.specs.Closing.{closed_plot}
-use Rattle.tracker_session.proofs.plots.plots_of.Given as goal
-
-abbrev pub invariant-loop-event : goal.invariant-loop-event
-invariant-loop-event l = l.plots.items ≡ filter_map (closed_plot l.settings l.last) (flat_map admitted_in (take l.event-index l.event-items))
