@@ -42,7 +42,9 @@ fn joined(alloc: Global, parts: &[&str]) -> Result<String, AllocError> {
 fn entries(alloc: Global, count: u8, more: &str) -> Result<String, AllocError> {
     let mut text = String::from_str(alloc, "radar = [\n")?;
     for sic in 0..count {
-        let entry = format!(in alloc; "{{ sic = {sic}, sac = 1, x = 0, y = 0, range_sigma = 50, azimuth_sigma = 12 }},\n")?;
+        let entry = format!(in alloc;
+            "{{ sic = {sic}, sac = 1, x = 0, y = 0, range_sigma = 50, azimuth_sigma = 12 }},\n"
+        )?;
         text.push_str(entry.as_str())?;
     }
     text.push_str(more)?;

@@ -46,19 +46,10 @@ const FAULTS: [(&[&str], &str); 32] = [
     ),
     // the system's keys come first, whatever else is wrong and wherever they stand
     (&["extra = 1\n"], "settings: missing key 1"),
-    (
-        &["extra = 1\n", "radar = 1\n"],
-        "settings: missing key 1",
-    ),
+    (&["extra = 1\n", "radar = 1\n"], "settings: missing key 1"),
     (&["extra = 1\n", RADAR], "settings: missing key 1"),
-    (
-        &["system = 1\n", "radar = 1\n"],
-        "settings: kind of key 1",
-    ),
-    (
-        &["[[system]]\nsac = 1\n", RADAR],
-        "settings: kind of key 1",
-    ),
+    (&["system = 1\n", "radar = 1\n"], "settings: kind of key 1"),
+    (&["[[system]]\nsac = 1\n", RADAR], "settings: kind of key 1"),
     (
         &["radar = 1\n", "[system]\nsac = 1\nsic = 256\n"],
         "settings: range of key 2",
@@ -68,7 +59,10 @@ const FAULTS: [(&[&str], &str); 32] = [
         "settings: missing key 3",
     ),
     (
-        &["[system]\nsac = 1\nsic = 99\nservice = 1\nhits = 9\n", RADAR],
+        &[
+            "[system]\nsac = 1\nsic = 99\nservice = 1\nhits = 9\n",
+            RADAR,
+        ],
         "settings: range of key 5",
     ),
     // then the radars' keys, of which the first stands for the whole too
@@ -81,7 +75,10 @@ const FAULTS: [(&[&str], &str); 32] = [
         "settings: missing key 8 of radar 0",
     ),
     (&["[radar]\n", SYSTEM], "settings: kind of key 8 of radar 0"),
-    (&["radar = 1\n", SYSTEM], "settings: kind of key 8 of radar 0"),
+    (
+        &["radar = 1\n", SYSTEM],
+        "settings: kind of key 8 of radar 0",
+    ),
     (
         &["radar = [1]\n", SYSTEM],
         "settings: kind of key 8 of radar 0",
@@ -100,26 +97,20 @@ const FAULTS: [(&[&str], &str); 32] = [
     ),
     // then a key that isn't known, at any level
     (
-        &["[system]\nsac = 1\nsic = 99\nservice = 1\nextra = 1\n", RADAR],
+        &[
+            "[system]\nsac = 1\nsic = 99\nservice = 1\nextra = 1\n",
+            RADAR,
+        ],
         "settings: unknown key",
     ),
-    (
-        &["radars = 1\n", SYSTEM, RADAR],
-        "settings: unknown key",
-    ),
-    (
-        &[SYSTEM, RADAR, "window = 32\n"],
-        "settings: unknown key",
-    ),
+    (&["radars = 1\n", SYSTEM, RADAR], "settings: unknown key"),
+    (&[SYSTEM, RADAR, "window = 32\n"], "settings: unknown key"),
     (
         &[SYSTEM, RADAR, RADAR, "extra = 1\n"],
         "settings: unknown key",
     ),
     // then the least radar that repeats an earlier one, though another repeats the first of all
-    (
-        &[SYSTEM, RADAR, RADAR],
-        "settings: radar 1 repeats radar 0",
-    ),
+    (&[SYSTEM, RADAR, RADAR], "settings: radar 1 repeats radar 0"),
     (
         &[SYSTEM, RADAR, SECOND, SECOND, RADAR],
         "settings: radar 2 repeats radar 1",

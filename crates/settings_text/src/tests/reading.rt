@@ -40,7 +40,10 @@ const READ: [(&[&str], [i64; 7], [i64; 12]); 5] = [
     ),
     // and their keys dotted
     (
-        &["system.sac = 1\nsystem.sic = 99\nsystem.service = 1\n", RADAR],
+        &[
+            "system.sac = 1\nsystem.sic = 99\nsystem.service = 1\n",
+            RADAR,
+        ],
         [1, 99, 1, 32, 3, 15, 30],
         [1, 1, 0, 0, 0, 0, 0, 0, 0, 0, 50, 12],
     ),
