@@ -45,9 +45,9 @@ full_is costs size g some =
     }
 
 -- one edge more
-pub edges_more : (costs : EdgeCosts) (size : ℕ) (g : Lcg) (n : ℕ) {now after : List Edge} {generator : Lcg} {cost : ℕ} → now ≡ map (full_edge costs size g) (range_with_len 0 n) → generator ≡ after costs n g → cost ≡ next_cost costs generator → after ≡ now ++ (n / size, n % size, cost) ∷ []
-    → after ≡ map (full_edge costs size g) (range_with_len 0 (n + 1))
-edges_more costs size g n {now} {after} {generator} {cost} e drawn is push =
+pub edges_more : (costs : EdgeCosts) (size : ℕ) (g : Lcg) (n : ℕ) {now next : List Edge} {generator : Lcg} {cost : ℕ} → now ≡ map (full_edge costs size g) (range_with_len 0 n) → generator ≡ after costs n g → cost ≡ next_cost costs generator → next ≡ now ++ (n / size, n % size, cost) ∷ []
+    → next ≡ map (full_edge costs size g) (range_with_len 0 (n + 1))
+edges_more costs size g n {now} {next} {generator} {cost} e drawn is push =
     let c : cost ≡ next_cost costs (after costs n g) = is ∙ ap (next_cost costs) drawn in
     push ∙ (λ j. e j ++ (n / size, n % size, c j) ∷ []) ∙ sym (map-range_with_len_more (full_edge costs size g) 0 n n (omega arith))
 

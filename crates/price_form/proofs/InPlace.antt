@@ -8,8 +8,7 @@ use Rattle.price_form.specs.declared.certs.Cert.{Cert}
 use Rattle.price_form.specs.declared.reading.Counts.{Counts}
 use Rattle.price_form.specs.Checks.{Rises, AreFeasible, first_rows}
 use Rattle.price_form.specs.Octets.{half_at, price_number_at, edge_numbers_at, entry_number_at, many_at}
-use Rattle.price_form.specs.Reading.{plots_at, tracks_at, edges_at, cert_end, cert_read, HasCounts, HasCert}
-use Rattle.price_form.proofs.Standing.{AreOctets}
+use Rattle.price_form.specs.Reading.{plots_at, tracks_at, cert_end, cert_read, HasCounts, HasCert}
 use Rattle.price_form.proofs.Certified.{cert_is}
 
 -- these are the certificate's lists

@@ -1,5 +1,5 @@
 -- What is read by index of a list, and sums of prices.
-use Rattle.std.proofs.Common.{◌≡◌, ◌≤◌, ℕ, ◌+◌, List, [], ◌∷◌, get_or, take, length, ◌∙◌, ap, sym, subst, arith, ℤ, pos, ◌+ℤ◌, ◌≤ℤ◌, ◌<◌}
+use Rattle.std.proofs.Common.{◌≡◌, ℕ, ◌+◌, List, [], ◌∷◌, get_or, take, length, ◌∙◌, ap, sym, subst, arith, ℤ, pos, ◌+ℤ◌, ◌<◌}
 use Rattle.std.specs.List.{All, AllWithin}
 use Rattle.std.proofs.lemmas.List.Elements.{AllWithin-more}
 use Rattle.std.proofs.lemmas.Grind.{fold-append}

@@ -1,5 +1,5 @@
 -- The offsets of a file's certificates, record by record.
-use Rattle.std.proofs.Common.{◌≡◌, ◌≢◌, ℕ, ◌+◌, ◌<◌, ◌≤◌, List, [], ◌∷◌, ◌++◌, length, get_or, take, arith, refl, sym, ◌∙◌, ap, subst}
+use Rattle.std.proofs.Common.{◌≡◌, ◌≢◌, ℕ, ◌<◌, ◌≤◌, List, [], ◌∷◌, ◌++◌, length, get_or, take, arith, refl, sym, ◌∙◌, ap, subst}
 use Rattle.std.specs.List.{flat_map, All}
 use Rattle.std.proofs.lemmas.List.Elements.{All-cons, All-head, All-nil, All-push, All-tail}
 use Rattle.assignment_dual.specs.Problems.{IsProblem}
@@ -9,7 +9,7 @@ use Rattle.price_form.specs.declared.certs.PriceRecord.{PriceRecord}
 use Rattle.price_form.specs.declared.certs.PriceRecord.TheVariants.{Edition, Cert as Certified}
 use Rattle.price_form.specs.declared.reading.Counts.{Counts}
 use Rattle.price_form.specs.Encoding.{cert_octets, price_record_octets}
-use Rattle.price_form.specs.Files.{magic, IsRecord, StandFrom, ArePrices, StopsAt}
+use Rattle.price_form.specs.Files.{magic, IsRecord, StandFrom, StopsAt}
 use Rattle.price_form.specs.Reading.{NoRecord, ReadsRecord, EndsRecord, HasCert, BeginsCert, IsThere, offsets_of, AreOffsets, HasCounts, ReadsCert, cert_read, cert_end, end_of}
 use Rattle.price_form.proofs.Standing.{AreOctets, stands_head}
 use Rattle.price_form.proofs.Filed.{one_record, stops_here, whole_file, cert_reads}

@@ -8,14 +8,14 @@ five : {A : Type 0} (xs : List A) (a b c d e : A) → 5 ≤ length xs → length
 five (v ∷ w ∷ x ∷ y ∷ z ∷ []) a b c d e long short ea eb ec ed ee = λ i. sym ea i ∷ sym eb i ∷ sym ec i ∷ sym ed i ∷ sym ee i ∷ []
 five xs a b c d e long short ea eb ec ed ee = absurd (omega arith)
 
-words : (words : List (List ℕ)) (count size costs seed : List ℕ) (o : Option PairingLoad) → words ≡ codes "pairings" ∷ count ∷ size ∷ costs ∷ seed ∷ [] → IfSome o (λ load. TellPairings count size costs seed load) → IfSome o (λ load. AreWordsOfPairings words load)
-words words count size costs seed None e h = tt
-words words count size costs seed (Some load) e h = record { count = count; size = size; costs = costs; seed = seed; whole = e; tell = h }
+of_words : (words : List (List ℕ)) (count size costs seed : List ℕ) (o : Option PairingLoad) → words ≡ codes "pairings" ∷ count ∷ size ∷ costs ∷ seed ∷ [] → IfSome o (λ load. TellPairings count size costs seed load) → IfSome o (λ load. AreWordsOfPairings words load)
+of_words words count size costs seed None e h = tt
+of_words words count size costs seed (Some load) e h = record { count = count; size = size; costs = costs; seed = seed; whole = e; tell = h }
 
 pub returns-clause-load : goal.returns-clause-load
 returns-clause-load c =
     let whole = five c.args.words.now _ _ _ _ _ c.in-len5.len_at_least c.in-len5.len_below c.command-item.is c.count-item.is c.size-item.is c.costs-item.is c.seed-item.is in
     let command : string_bytes c.command-item.result ≡ codes "pairings" = search rules in
-    words _ c.as_str-2.result.now c.as_str-3.result.now c.as_str-4.result.now c.as_str-5.result.now c.pairings_with.result
+    of_words _ c.as_str-2.result.now c.as_str-3.result.now c.as_str-4.result.now c.as_str-5.result.now c.pairings_with.result
     (ap (map (λ word. string_bytes word)) whole ∙ (λ i. command i ∷ sym c.as_str-2.ensures.value i ∷ sym c.as_str-3.ensures.value i ∷ sym c.as_str-4.ensures.value i ∷ sym c.as_str-5.ensures.value i ∷ []))
     c.pairings_with.ensures.load

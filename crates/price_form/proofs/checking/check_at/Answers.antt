@@ -1,5 +1,5 @@
 use Rattle.std.proofs.Common.{refl}
-use Rattle.price_form.proofs.InPlace.{Offsets, columns_at, may_prove, proves_as, AreColumns, MayProve}
+use Rattle.price_form.proofs.InPlace.{columns_at, may_prove, proves_as}
 use Rattle.price_form.proofs.checking.check_at.Goals as goal
 
 pub prove-requires-clause-few : goal.prove-requires-clause-few

@@ -1,5 +1,4 @@
-use Rattle.std.proofs.Common.{rules, ◌≡◌, ◌+◌, ◌+ℤ◌, take}
-use Rattle.assignment_dual.specs.Problems.{total}
+use Rattle.std.proofs.Common.{rules}
 use Rattle.price_form.proofs.Sums.{inside, sum_more}
 use Rattle.price_form.proofs.checking.sum_of.Goals as goal
 

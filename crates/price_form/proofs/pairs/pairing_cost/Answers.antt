@@ -1,7 +1,6 @@
-use Rattle.std.proofs.Common.{◌≡◌, ◌<◌, ◌≤◌, ℕ, Option, None, arith, subst, sym, ap}
+use Rattle.std.proofs.Common.{◌≡◌, ◌<◌, ℕ, Option, None, arith, subst, sym, ap}
 use Rattle.assignment_dual.specs.Pairings.{Gates, entry_cost}
 use Rattle.assignment_dual.specs.Problems.{row_of}
-use Rattle.price_form.specs.Checks.{entry_at}
 use Rattle.price_form.proofs.Rows.{more_gates, gates_each}
 use Rattle.price_form.proofs.pairs.pairing_cost.Goals as goal
 

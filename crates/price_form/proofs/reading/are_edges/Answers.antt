@@ -1,4 +1,4 @@
-use Rattle.std.proofs.Common.{◌<◌, ◌≤◌, ◌-◌, arith, refl, subst}
+use Rattle.std.proofs.Common.{◌<◌, ◌≤◌, arith, refl, subst}
 use Rattle.std.proofs.lemmas.Bool.{false≢true, both_ways}
 use Rattle.assignment_dual.specs.Problems.{Edge}
 use Rattle.price_form.proofs.ReadSteps.{rises_more, each_more, all_edges, last_next, last_before}

@@ -1,5 +1,4 @@
 use Rattle.std.proofs.Common.{ℕ, ◌<◌, ◌≤◌}
-use Rattle.std.specs.List.{AllWithin}
 use Rattle.assignment_dual.specs.Problems.{EdgeBefore, edge_at}
 use Rattle.price_form.proofs.ReadSteps.{IsLast}
 use Rattle.price_form.proofs.reading.are_edges.Given as goal

@@ -1,4 +1,4 @@
-use Rattle.std.proofs.Common.{refl, rules}
+use Rattle.std.proofs.Common.{refl}
 use Rattle.price_form.proofs.CertReading.{refused_edges, refused_names, read_here}
 use Rattle.price_form.proofs.reading.cert_counts.Goals as goal
 

@@ -1,5 +1,4 @@
-use Rattle.std.proofs.Common.{◌≡◌, ◌∙◌, ap, sym, arith, ℕ, ◌+◌, ◌*◌}
-use Rattle.price_form.specs.Reading.{HasCounts}
+use Rattle.std.proofs.Common.{arith}
 use Rattle.price_form.proofs.InPlace.{counts_read, long_enough}
 use Rattle.price_form.proofs.reading.counts_of.Goals as goal
 

@@ -1,4 +1,4 @@
-use Rattle.std.proofs.Common.{◌≡◌, ◌∙◌, ◌<◌, ◌≤◌, ◌+◌, ◌*◌, ℕ, List, length, arith, sym, subst}
+use Rattle.std.proofs.Common.{◌∙◌, ◌<◌, ◌≤◌, ◌+◌, ◌*◌, ℕ, List, length, arith, sym, subst}
 use Rattle.price_form.specs.Octets.{many_at, edge_numbers_at}
 use Rattle.price_form.proofs.Standing.{length-many, get-many}
 use Rattle.price_form.proofs.columns.EdgesColumnTuple3U32U32U16.at.Goals as goal

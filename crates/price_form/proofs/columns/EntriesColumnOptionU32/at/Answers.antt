@@ -1,4 +1,4 @@
-use Rattle.std.proofs.Common.{◌≡◌, ◌∙◌, ◌<◌, ◌≤◌, ◌+◌, ◌*◌, ℕ, List, length, arith, sym, subst}
+use Rattle.std.proofs.Common.{◌∙◌, ◌<◌, ◌≤◌, ◌+◌, ◌*◌, ℕ, List, length, arith, sym, subst}
 use Rattle.price_form.specs.Octets.{many_at, entry_number_at}
 use Rattle.price_form.proofs.Standing.{length-many, get-many}
 use Rattle.price_form.proofs.columns.EntriesColumnOptionU32.at.Goals as goal
