@@ -10,7 +10,7 @@ use Rattle.asterix_frame.specs.Blocks.{DataBlock, encoding}
 use Rattle.asterix_frame.specs.Blocks as frame
 use Rattle.asterix_frame.proofs.Datagrams.{some_reading}
 use Rattle.recording.specs.declared.header.Header.{Header}
-use Rattle.recording.specs.Biases.{big_endian}
+use Rattle.asterix_frame.specs.Values.{big_endian}
 use Rattle.recording.specs.Items.{Item, datagram, tick, bias, item_octets}
 use Rattle.admission_log.specs.Changes.{IsOpenChange}
 use Rattle.recording.specs.Raw.{TimedBlock, blocks_of, start_of, ticks, tick_before, last_tick, items_from, last_from, tick_at, second, closing}
@@ -184,9 +184,9 @@ some_added settings log (tick time) bytes =
     ]
 some_added settings log (bias radar slot b) bytes =
     elim (cases_lt radar (length settings.radars)) [
-      | inr unknown ↦ record { added = None; adds = λ (open : IsOpenChange settings (last_of log) radar slot). omega (arith, unknown, open.known) }
+      | inr unknown ↦ record { added = None; adds = λ (is_open : IsOpenChange settings (last_of log) radar slot). omega (arith, unknown, is_open.known) }
       | inl known ↦ elim (cases_lt slot (low_at settings.window (last_of log))) [
-        | inl late ↦ record { added = None; adds = λ (open : IsOpenChange settings (last_of log) radar slot). omega (arith, late, open.not_late) }
+        | inl late ↦ record { added = None; adds = λ (is_open : IsOpenChange settings (last_of log) radar slot). omega (arith, late, is_open.not_late) }
         | inr not_late ↦ record { added = Some (Bias radar slot b); adds = (record { known = known; not_late = not_late }, refl) }
       ]
     ]

@@ -252,10 +252,10 @@ refused_taken settings radar slot b old new closed log counts =
         ∙ ap (counts_of tells (items ++ item ∷ [])) (sym log)
 
 pub change_taken : (settings : Settings) (radar slot : ℕ) (b : Bias) (old new : Run) → IsOpenChange settings (last_of old.log) radar slot → new.log ≡ appended old.log (Change radar slot b) → new.counts ≡ record old.counts { biases = counted (old.counts.biases + 1) } → TakesSilently settings (bias radar slot b) old new
-change_taken settings radar slot b old new open log counts =
+change_taken settings radar slot b old new is_open log counts =
     record {
       added = Some event;
-      has = record { adds = (open, refl); log = log; counts = grown };
+      has = record { adds = (is_open, refl); log = log; counts = grown };
       gives = nothing_given settings old.log (appended old.log event) (λ output h. output_silent settings old.log event output refl h);
     }
   where

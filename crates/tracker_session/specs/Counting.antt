@@ -36,7 +36,7 @@ is_tick_taken _ = false
 
 -- a change of a radar's biases
 abbrev pub is_change : Event → Bool
-is_change (Bias radar slot bias) = true
+is_change (Bias radar slot b) = true
 is_change _ = false
 
 -- the blocks that an event passed over

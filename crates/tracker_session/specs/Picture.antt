@@ -6,7 +6,7 @@ use Rattle.trk_base.specs.Numbers.{day, round}
 use Rattle.plot_geometry.specs.Plots.{PlanePlot}
 use Rattle.asterix_frame.specs.Blocks as frame
 use Rattle.asterix_frame.specs.Packing.{AreFilled, ungrouped}
-use Rattle.recording.specs.Items.{big_endian}
+use Rattle.asterix_frame.specs.Values.{big_endian}
 use Rattle.admission_log.specs.declared.settings.Settings.{Settings}
 use Rattle.admission_log.specs.Histories.{History, last_of}
 use Rattle.admission_log.specs.Plots.{plots_of}

@@ -95,7 +95,11 @@ impl Run {
                 self.counts.biases = more(self.counts.biases, 1);
                 Ok(())
             }
-            Err(BiasError::UnknownRadar { .. } | BiasError::BeforeHorizon { .. }) => {
+            Err(BiasError::UnknownRadar { .. }) => {
+                self.counts.refused = more(self.counts.refused, 1);
+                Ok(())
+            }
+            Err(BiasError::BeforeHorizon { .. }) => {
                 self.counts.refused = more(self.counts.refused, 1);
                 Ok(())
             }

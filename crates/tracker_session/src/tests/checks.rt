@@ -84,12 +84,12 @@ fn a_fault_of_the_file_is_told(rt: HostRuntime) -> Result<(), Fail> {
     let alloc = rt.alloc();
     let mut other = ONE_CERTIFICATE;
     other[62] = 2;
-    let mut behind = Vec::from_slice(alloc, &other)?;
-    behind.push(3)?;
+    let mut longer = Vec::from_slice(alloc, &other)?;
+    longer.push(3)?;
     let rows: [(&[u8], usize, &str); 3] = [
         (&[], 0, "input: offset 0\n"),
         (&ONE_CERTIFICATE[..62], 21, "input: offset 21\n"),
-        (&behind, 63, "input: offset 63\n"),
+        (&longer, 63, "input: offset 63\n"),
     ];
     for (prices, offset, screen) in rows {
         let given: (&[u8], usize, &[u64]) = (prices, 1000, &[]);

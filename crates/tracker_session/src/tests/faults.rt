@@ -88,7 +88,7 @@ fn a_text_that_cant_be_written_leaves_the_status(rt: HostRuntime) -> Result<(), 
     compare(&rt, alloc, given, Status::Read(Spot::Input), &[], "")
 }
 
-/// A write takes the front that there is room for, and the next fails.
+/// A write takes the prefix that there is room for, and the next fails.
 #[test]
 fn writing_breaks_off(rt: HostRuntime) -> Result<(), Fail> {
     let (answer, host) = run(

@@ -1,4 +1,7 @@
 use Rattle.tracker_session.specs.Words.{texts}
+use Rattle.tracker_session.specs.declared.status.Status.TheVariants.{Memory}
+use Rattle.tracker_session.proofs.Finishing.{end_status}
+use Rattle.tracker_session.proofs.Running.{ran_nothing}
 use Rattle.tracker_session.proofs.Wording.{is_command, never_usage, no_replay, replay_of, check_of}
 use Rattle.tracker_session.proofs.batch.run_batch.Goals as goal
 
@@ -24,3 +27,10 @@ pub returns-in-Err-Usage-clause-replay : goal.returns-in-Err-Usage-clause-replay
 returns-in-Err-Usage-clause-replay g c =
     let state = g.H.Host.state in
     no_replay (texts c.args.words.now) c.tell.result (state c.args.host.now) (state c.tell.new.host) (c.in-Err-Usage.ensures.usage cc)
+
+pub returns-in-Err-NoMemory-clause-replay : goal.returns-in-Err-NoMemory-clause-replay
+returns-in-Err-NoMemory-clause-replay g c = λ settings input output words.
+    let state = g.H.Host.state in
+    let old = state c.args.host.now in
+    let e = c.tell-in-Err-NoMemory.ensures in
+    end_status settings input output Memory c.tell-in-Err-NoMemory.result old old (state c.tell-in-Err-NoMemory.new.host) (ran_nothing settings input output old c.requires) e.status e.told e.touches
