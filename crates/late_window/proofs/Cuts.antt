@@ -248,9 +248,10 @@ module _ {I : Type 0} (slot : I → ℕ) where
     pub outs_uncut : (s : S) (n : ℕ) (xs ys : List I) (os : List O) → AreCut n xs ys → AreOutsOf next slot is_out s (xs ++ ys) os
         → AreOutsOf next slot is_out s xs (take (length (slots slot xs)) os) × AreOutsOf next slot is_out (before next slot s xs n) ys (drop (length (slots slot xs)) os)
     outs_uncut s n xs ys os c h =
-        let two = outs_parted s (xs ++ ys) (slots slot xs) (slots slot ys) os (subst (λ (ns : List ℕ). OutsAt next slot is_out s (xs ++ ys) ns os) (slots_cut n xs ys c) h) in
-        (outs_same s s (xs ++ ys) xs (λ m. m < n) (slots slot xs) (take (length (slots slot xs)) os) (λ m lt. (before_low s n m xs ys c (omega (arith, lt)), at_low n m xs ys c lt)) (slots_all (λ m. m < n) xs c.low) two.0,
-        outs_same s (before next slot s xs n) (xs ++ ys) ys (λ m. n ≤ m) (slots slot ys) (drop (length (slots slot xs)) os) (λ m le. (before_high s n m xs ys c le, at_high n m xs ys c le)) (slots_all (λ m. n ≤ m) ys c.high) two.1)
+        let two = outs_parted s (xs ++ ys) (slots slot xs) (slots slot ys) os (subst (λ (ns : List ℕ). OutsAt next slot is_out s (xs ++ ys) ns os) (slots_cut n xs ys c) h) in (
+          outs_same s s (xs ++ ys) xs (λ m. m < n) (slots slot xs) (take (length (slots slot xs)) os) (λ m lt. (before_low s n m xs ys c (omega (arith, lt)), at_low n m xs ys c lt)) (slots_all (λ m. m < n) xs c.low) two.0,
+          outs_same s (before next slot s xs n) (xs ++ ys) ys (λ m. n ≤ m) (slots slot ys) (drop (length (slots slot xs)) os) (λ m le. (before_high s n m xs ys c le, at_high n m xs ys c le)) (slots_all (λ m. n ≤ m) ys c.high) two.1,
+        )
 
     -- The state after the last slot
 
@@ -286,7 +287,7 @@ module _ {I : Type 0} (slot : I → ℕ) where
         let t = before next slot s lows n in
         let e : xs ≡ lows ++ highs = cut_at n xs r in
         let one : AllByRecursion (λ x. slot x ≡ n) highs = all_weaker (λ x. (n ≤ slot x) × (slot x < suc n)) (λ x. slot x ≡ n) (λ x k. omega (arith, k.0, k.1)) highs
-            (all_both (λ x. n ≤ slot x) (λ x. slot x < suc n) highs (from_le n xs) (filter_keeps (λ x. slot x < suc n) (λ x. leb n (slot x)) xs h)) in
+        (all_both (λ x. n ≤ slot x) (λ x. slot x < suc n) highs (from_le n xs) (filter_keeps (λ x. slot x < suc n) (λ x. leb n (slot x)) xs h)) in
         ap (λ l. latest s (states next slot s l)) e ∙ ap (latest s) (states_cut s n lows highs (cut n xs)) ∙ latest_append s (states next slot s lows) (states next slot t highs)
         ∙ ap (λ u. latest u (states next slot t highs)) (latest_states s n lows (below_rise n xs r) (below_lt n xs))
         ∙ latest_one t n highs one ∙ sym (before_high s n (suc n) lows highs (cut n xs) (omega arith)) ∙ sym (ap (λ l. before next slot s l (suc n)) e)

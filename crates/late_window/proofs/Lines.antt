@@ -28,7 +28,7 @@ module _ {S I O K : Type 0} (next : S → ℕ → List I → S) (is_out : S → 
 
   with_any : (p : ℕ → Bool) (n : ℕ) (ms : List ℕ) → list_any p ms ≡ true → list_any p (with_slot n ms) ≡ true
   with_any p n [] h = cc
-  with_any p n (m ∷ ms) h = cond_both (eqb n m) (m ∷ ms) (n ∷ m ∷ ms) (λ l. list_any p l ≡ true) (λ e. h) (λ e. elim (p n) as (λ b. (b || list_any p (m ∷ ms)) ≡ true) [ | true ↦ refl | false ↦ h ])
+  with_any p n (m ∷ ms) h = cond_both (eqb n m) (m ∷ ms) (n ∷ m ∷ ms) (λ l. list_any p l ≡ true) (λ e. h) (λ e. elim (p n) as (λ b. (b || list_any p (m ∷ ms)) ≡ true) [ true ↦ refl | false ↦ h ])
 
   with_own : (n : ℕ) (ms : List ℕ) → list_any (λ m. eqb m n) (with_slot n ms) ≡ true
   with_own n [] = rw (eq-eqb n n refl) refl
@@ -61,11 +61,11 @@ module _ {S I O K : Type 0} (next : S → ℕ → List I → S) (is_out : S → 
       let highs = from slot line w.items in
       let test = λ (x : I). ltb (slot x) upto && not (is_folded w (slot x)) in
       let known : AllByRecursion (λ x. test x ≡ false) lows =
-          all_weaker (λ x. list_any (λ m. eqb m (slot x)) (slots slot lows) ≡ true) (λ x. test x ≡ false)
-          (λ x h. not_and (ltb (slot x) upto) (is_folded w (slot x)) (ap (λ l. list_any (λ m. eqb m (slot x)) l) k.folded ∙ h)) lows (own_slots lows) in
+      all_weaker (λ x. list_any (λ m. eqb m (slot x)) (slots slot lows) ≡ true) (λ x. test x ≡ false)
+      (λ x h. not_and (ltb (slot x) upto) (is_folded w (slot x)) (ap (λ l. list_any (λ m. eqb m (slot x)) l) k.folded ∙ h)) lows (own_slots lows) in
       let new : AllByRecursion (λ x. test x ≡ ltb (slot x) upto) highs =
-          all_weaker (λ x. line ≤ slot x) (λ x. test x ≡ ltb (slot x) upto)
-          (λ x h. and_not (ltb (slot x) upto) (is_folded w (slot x)) (ap (λ l. list_any (λ m. eqb m (slot x)) l) k.folded ∙ none_any line (slot x) (slots slot lows) (Cuts.slots_all slot (λ m. m < line) lows (Cuts.below_lt slot line w.items)) h)) highs (Cuts.from_le slot line w.items) in
+      all_weaker (λ x. line ≤ slot x) (λ x. test x ≡ ltb (slot x) upto)
+      (λ x h. and_not (ltb (slot x) upto) (is_folded w (slot x)) (ap (λ l. list_any (λ m. eqb m (slot x)) l) k.folded ∙ none_any line (slot x) (slots slot lows) (Cuts.slots_all slot (λ m. m < line) lows (Cuts.below_lt slot line w.items)) h)) highs (Cuts.from_le slot line w.items) in
       ap (filter test) (Cuts.cut_at slot line w.items r) ∙ filter_append test lows highs ∙ (λ i. filter_none test lows known i ++ filter_same test (λ x. ltb (slot x) upto) highs new i)
 
   -- the last state is the one before the line
@@ -109,7 +109,7 @@ module _ {S I O K : Type 0} (next : S → ℕ → List I → S) (is_out : S → 
   span_before stays goes w line upto r k =
       let lows = below slot line w.items in
       let b : is_before (before next slot w.base lows line) line =
-          before_is stays goes w.base w.low line lows k.before (filter_keeps (λ x. w.low ≤ slot x) (λ x. ltb (slot x) line) w.items k.low) (rises_filter cmp key (λ x. ltb (slot x) line) w.items k.rise) k.line_low in
+      before_is stays goes w.base w.low line lows k.before (filter_keeps (λ x. w.low ≤ slot x) (λ x. ltb (slot x) line) w.items k.low) (rises_filter cmp key (λ x. ltb (slot x) line) w.items k.rise) k.line_low in
       rw (dirty_is w line upto r k, state_is w line r k)
       (first_is stays (before next slot w.base lows line) line (below slot upto (from slot line w.items)) b (filter_keeps (λ x. line ≤ slot x) (λ x. ltb (slot x) upto) (from slot line w.items) (Cuts.from_le slot line w.items)))
 
@@ -126,8 +126,8 @@ module _ {S I O K : Type 0} (next : S → ℕ → List I → S) (is_out : S → 
       let span = below slot upto (from slot line w.items) in
       let c : Cuts.AreCut slot line lows span = record { low = Cuts.below_lt slot line w.items; high = filter_keeps (λ x. line ≤ slot x) (λ x. ltb (slot x) upto) (from slot line w.items) (Cuts.from_le slot line w.items) } in
       let all : below slot upto w.items ≡ lows ++ span =
-          ap (below slot upto) (Cuts.cut_at slot line w.items r) ∙ filter_append (λ x. ltb (slot x) upto) lows (from slot line w.items)
-          ∙ ap (λ l. l ++ span) (Cuts.below_all slot upto lows (all_weaker (λ x. slot x < line) (λ x. slot x < upto) (λ x lt. omega (arith, lt, k.line_upto, le)) lows (Cuts.below_lt slot line w.items))) in
+      ap (below slot upto) (Cuts.cut_at slot line w.items r) ∙ filter_append (λ x. ltb (slot x) upto) lows (from slot line w.items)
+      ∙ ap (λ l. l ++ span) (Cuts.below_all slot upto lows (all_weaker (λ x. slot x < line) (λ x. slot x < upto) (λ x lt. omega (arith, lt, k.line_upto, le)) lows (Cuts.below_lt slot line w.items))) in
       let span_is = dirty_is w line upto r k in
       let start = before next slot w.base lows line in
       let start_is = state_is w line r k in
@@ -204,10 +204,10 @@ module _ {S I O K : Type 0} (next : S → ℕ → List I → S) (is_out : S → 
       let rest = from slot lower (below slot line w.items) in
       let all : folded w ≡ kept ++ slots slot rest = is.folded ∙ line_slots line lower w.items r le in
       let passing : AllByRecursion (λ m. ltb m n ≡ true) kept =
-          Cuts.slots_all slot (λ m. ltb m n ≡ true) (below slot lower w.items) (all_weaker (λ x. slot x < lower) (λ x. ltb (slot x) n ≡ true) (λ x lt. lt-ltb (slot x) n (omega (arith, lt, low))) (below slot lower w.items) (Cuts.below_lt slot lower w.items)) in
+      Cuts.slots_all slot (λ m. ltb m n ≡ true) (below slot lower w.items) (all_weaker (λ x. slot x < lower) (λ x. ltb (slot x) n ≡ true) (λ x lt. lt-ltb (slot x) n (omega (arith, lt, low))) (below slot lower w.items) (Cuts.below_lt slot lower w.items)) in
       let failing : AllByRecursion (λ m. ltb m n ≡ false) (slots slot rest) =
-          Cuts.slots_all slot (λ m. ltb m n ≡ false) rest (all_weaker (λ x. (lower ≤ slot x) × (slot x < line)) (λ x. ltb (slot x) n ≡ false) (λ x b. le-ltb (slot x) n (let up : n ≤ lower = high (omega (arith, b.0, b.1)) in omega (arith, up, b.0))) rest
-          (all_both (λ x. lower ≤ slot x) (λ x. slot x < line) rest (Cuts.from_le slot lower (below slot line w.items)) (filter_keeps (λ x. slot x < line) (λ x. leb lower (slot x)) (below slot line w.items) (Cuts.below_lt slot line w.items)))) in
+      Cuts.slots_all slot (λ m. ltb m n ≡ false) rest (all_weaker (λ x. (lower ≤ slot x) × (slot x < line)) (λ x. ltb (slot x) n ≡ false) (λ x b. le-ltb (slot x) n (let up : n ≤ lower = high (omega (arith, b.0, b.1)) in omega (arith, up, b.0))) rest
+      (all_both (λ x. lower ≤ slot x) (λ x. slot x < line) rest (Cuts.from_le slot lower (below slot line w.items)) (filter_keeps (λ x. slot x < line) (λ x. leb lower (slot x)) (below slot line w.items) (Cuts.below_lt slot line w.items)))) in
       map_take (λ o. o.0) k w.outs ∙ (λ i. take (count i) (all i)) ∙ take_left kept (slots slot rest)
       ∙ sym (ap (filter (λ m. ltb m n)) all ∙ filter_append (λ m. ltb m n) kept (slots slot rest) ∙ (λ i. filter_all (λ m. ltb m n) kept passing i ++ filter_none (λ m. ltb m n) (slots slot rest) failing i) ∙ append-nil kept)
 
@@ -217,8 +217,8 @@ module _ {S I O K : Type 0} (next : S → ℕ → List I → S) (is_out : S → 
       let lows = below slot line w.items in
       let span = below slot w.upto (from slot line w.items) in
       let all : below slot w.upto w.items ≡ lows =
-          ap (below slot w.upto) (Cuts.cut_at slot line w.items r) ∙ filter_append (λ x. ltb (slot x) w.upto) lows (from slot line w.items)
-          ∙ (λ i. Cuts.below_all slot w.upto lows (all_weaker (λ x. slot x < line) (λ x. slot x < w.upto) (λ x lt. omega (arith, lt, k.line_upto)) lows (Cuts.below_lt slot line w.items)) i ++ (sym (dirty_is w line w.upto r k) ∙ none) i) ∙ append-nil lows in
+      ap (below slot w.upto) (Cuts.cut_at slot line w.items r) ∙ filter_append (λ x. ltb (slot x) w.upto) lows (from slot line w.items)
+      ∙ (λ i. Cuts.below_all slot w.upto lows (all_weaker (λ x. slot x < line) (λ x. slot x < w.upto) (λ x lt. omega (arith, lt, k.line_upto)) lows (Cuts.below_lt slot line w.items)) i ++ (sym (dirty_is w line w.upto r k) ∙ none) i) ∙ append-nil lows in
       record {
         rise = k.rise;
         low = k.low;
@@ -254,7 +254,7 @@ module _ {S I O K : Type 0} (next : S → ℕ → List I → S) (is_out : S → 
       let kept = from slot low (below slot w.upto w.items) in
       let c = line_are_cut w.upto low w.items in
       let parts : w.states ≡ states next slot w.base gone ++ states next slot (before next slot w.base gone low) kept =
-          is.states ∙ ap (states next slot w.base) (line_cut w.upto low w.items r le) ∙ Cuts.states_cut slot next is_out w.base low gone kept c in
+      is.states ∙ ap (states next slot w.base) (line_cut w.upto low w.items r le) ∙ Cuts.states_cut slot next is_out w.base low gone kept c in
       let long : k ≡ length (states next slot w.base gone) = count ∙ sym (states_long w.base gone) in
       ap (latest w.base) ((λ i. take (long i) (parts i)) ∙ take_left (states next slot w.base gone) (states next slot (before next slot w.base gone low) kept))
       ∙ Cuts.latest_states slot next is_out w.base low gone (Cuts.below_rise slot low w.items r) (Cuts.below_lt slot low w.items)
@@ -265,11 +265,12 @@ module _ {S I O K : Type 0} (next : S → ℕ → List I → S) (is_out : S → 
       let rest = from slot low (below slot w.upto w.items) in
       let all : folded w ≡ gone ++ slots slot rest = is.folded ∙ line_slots w.upto low w.items r le in
       let failing : AllByRecursion (λ m. leb low m ≡ false) gone =
-          Cuts.slots_all slot (λ m. leb low m ≡ false) (below slot low w.items) (all_weaker (λ x. slot x < low) (λ x. leb low (slot x) ≡ false) (λ x lt. lt-leb low (slot x) lt) (below slot low w.items) (Cuts.below_lt slot low w.items)) in
+      Cuts.slots_all slot (λ m. leb low m ≡ false) (below slot low w.items) (all_weaker (λ x. slot x < low) (λ x. leb low (slot x) ≡ false) (λ x lt. lt-leb low (slot x) lt) (below slot low w.items) (Cuts.below_lt slot low w.items)) in
       let passing : AllByRecursion (λ m. leb low m ≡ true) (slots slot rest) =
-          Cuts.slots_all slot (λ m. leb low m ≡ true) rest (all_weaker (λ x. low ≤ slot x) (λ x. leb low (slot x) ≡ true) (λ x h. le-leb low (slot x) h) rest (Cuts.from_le slot low (below slot w.upto w.items))) in
+      Cuts.slots_all slot (λ m. leb low m ≡ true) rest (all_weaker (λ x. low ≤ slot x) (λ x. leb low (slot x) ≡ true) (λ x h. le-leb low (slot x) h) rest (Cuts.from_le slot low (below slot w.upto w.items))) in
       map_drop (λ o. o.0) k w.outs ∙ (λ i. drop (count i) (all i)) ∙ drop_left gone (slots slot rest)
       ∙ sym (ap (filter (λ m. leb low m)) all ∙ filter_append (λ m. leb low m) gone (slots slot rest) ∙ (λ i. filter_none (λ m. leb low m) gone failing i ++ filter_all (λ m. leb low m) (slots slot rest) passing i))
+
   pub closed : (stays : (s : S) (a b : ℕ) → a ≤ b → is_before s a → is_before s b) (goes : (s : S) (n : ℕ) (items : List I) → InSlot slot n items → Rises cmp key items → is_before s n → is_before (next s n items) (n + 1))
       → (w : Seen S I O) (low k : ℕ) → SlotsRise slot w.items → Is w w.upto → w.low ≤ low → low ≤ w.upto → k ≡ length (slots slot (below slot low w.items))
       → Is (record { base = latest w.base (take k w.states); items = from slot low w.items; states = drop k w.states; outs = drop k w.outs; low = low; upto = w.upto }) w.upto
