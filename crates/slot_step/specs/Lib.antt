@@ -1,0 +1,6 @@
+pub mod Interleavings
+pub mod Batches
+pub mod Slots
+pub mod Numbers
+pub mod Certificates
+pub mod Parts

@@ -1,0 +1,13 @@
+//! The step of a slot: tracks that went too long without a plot expire, and then the batches of the
+//! slot's radars follow, in rising order. A batch is paired with the tracks at its start by the
+//! least pairing; each track that is paired is updated by its plot, and each plot that is paired
+//! with none begins a track (Bar-Shalom, Li, Kirubarajan, "Estimation with Applications to Tracking
+//! and Navigation", 1.4: data association, track formation and maintenance).
+//!
+//! So far this crate has the definitions, over any tracks, plots and keys, and the laws that the
+//! layers above rest on: a run in parts, a slot without plots, and numbers that no run reads.
+#![tactic(auto)]
+
+mod laws;
+
+pub use laws::{empty_batch, expired_twice, merged_tables, resting, run_in_parts, run_in_two_parts, tables_before, two_batches, unread_numbers};
