@@ -1,10 +1,10 @@
 -- A fold that is cut at a slot: a late item changes no state before its slot, and the state at the cut stands for all below it.
 use Rattle.std.proofs.Common.{◌≡◌, ◌∙◌, ap, sym, refl, subst, ℕ, zero, suc, ◌≤◌, ◌<◌, List, [], ◌∷◌, ◌++◌, Bool, true, false, cond, eqb, ltb, leb, length, take, drop, map, append-nil, arith, inl, inr}
-use Rattle.std.specs.Prelude.{filter, Option, Some, None, option_map}
+use Rattle.std.specs.Prelude.{filter, Some, option_map}
 use Rattle.late_window.specs.Windows.{first}
 use Rattle.std.specs.List.{slice_get}
 use Rattle.std.specs.List.{AllByRecursion, insert}
-use Rattle.std.proofs.lemmas.Bool.{eqb-true, eq-eqb, cases_Bool, cond_both, le-leb, lt-leb, lt-ltb, le-ltb, leb-true, leb-false, ltb-true, cases_lt, ne_eqb}
+use Rattle.std.proofs.lemmas.Bool.{eqb-true, eq-eqb, cases_Bool, cond_both, le-leb, lt-leb, lt-ltb, le-ltb, leb-true, ltb-true, cases_lt, ne_eqb}
 use Rattle.std.proofs.lemmas.List.{map-append, take-append-drop}
 use Rattle.late_window.specs.Folding.{at_slot, below, from, stepped, before, after, with_slot, slots, states, OutsAt, AreOutsOf, latest}
 use Rattle.late_window.proofs.Groups.{SlotsRise}

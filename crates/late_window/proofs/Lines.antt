@@ -1,19 +1,17 @@
 -- What a window keeps to, while its line moves.
-use Rattle.std.proofs.Common.{◌≡◌, ◌∙◌, ap, sym, refl, subst, ℕ, zero, suc, ◌+◌, ◌≤◌, ◌<◌, List, [], ◌∷◌, ◌++◌, Bool, true, false, cond, eqb, ltb, leb, length, take, drop, map, get_or, append-nil, append_assoc, min, arith, inl, inr}
-use Rattle.std.specs.Prelude.{filter, not, ◌&&◌, ◌||◌}
-use Rattle.std.specs.Cmp.{IsTotalOrder}
-use Rattle.std.specs.List.{AllByRecursion, AllWithin, insert, list_any}
-use Rattle.std.specs.List.Sorted.{IsPermutation, IsNonDecreasingBy}
+use Rattle.std.proofs.Common.{◌≡◌, ◌∙◌, ap, sym, refl, subst, ℕ, zero, suc, ◌+◌, ◌≤◌, ◌<◌, List, [], ◌∷◌, ◌++◌, Bool, true, false, eqb, ltb, leb, length, take, drop, map, append-nil, min, arith, inl, inr}
+use Rattle.std.specs.Prelude.{filter, not, ◌&&◌, ◌||◌, None}
+use Rattle.std.specs.List.{AllByRecursion, AllWithin, list_any}
+use Rattle.std.specs.List.Sorted.{IsNonDecreasingBy}
 use Rattle.std.specs.declared.cmp.Ordering.{Ordering}
-use Rattle.std.specs.declared.cmp.Ordering.TheVariants.{Less, Equal}
-use Rattle.std.proofs.lemmas.Bool.{eqb-true, eq-eqb, ne_eqb, cond_both, le-leb, lt-leb, lt-ltb, le-ltb, cases_lt, cases_Bool}
+use Rattle.std.specs.declared.cmp.Ordering.TheVariants.{Less}
+use Rattle.std.proofs.lemmas.Bool.{eqb-true, eq-eqb, ne_eqb, cond_both, le-leb, lt-leb, lt-ltb, le-ltb, cases_lt}
 use Rattle.std.proofs.lemmas.List.{map-append, length-map}
-use Rattle.std.proofs.lemmas.List.Sorted.{IsPermutation-refl, IsPermutation-trans, IsPermutation-append_left, IsPermutation-append_right, IsPermutation-append_comm}
-use Rattle.late_window.specs.Folding.{Rises, InSlot, at_slot, below, from, stepped, before, after, with_slot, slots, states, BeforeFirst, OutsAt, AreOutsOf, latest}
-use Rattle.late_window.specs.Windows.{Seen, folded, state_of, is_folded, dirty_items, dirty_slots, AreInOrder, StandsFor, IsWindow}
+use Rattle.late_window.specs.Folding.{Rises, InSlot, at_slot, below, from, stepped, before, after, with_slot, slots, states, BeforeFirst, AreOutsOf, latest}
+use Rattle.late_window.specs.Windows.{Seen, folded, state_of, is_folded, dirty_items, dirty_slots, first, IsWindow}
 use Rattle.late_window.proofs.Groups.{SlotsRise, slots_rise}
 use Rattle.late_window.proofs.Lists.{all_weaker, all_both, filter_all, filter_none, filter_same, filter_append, filter_passing, filter_keeps, take_left, drop_left, map_take, map_drop, point_is}
-use Rattle.late_window.proofs.Orders.{non_decreasing, slots_fall_not, map_rise, rises_filter, rises_cut}
+use Rattle.late_window.proofs.Orders.{non_decreasing, slots_fall_not, map_rise, rises_filter}
 use Rattle.late_window.proofs.Cuts
 
 module _ {S I O K : Type 0} (next : S → ℕ → List I → S) (is_out : S → ℕ → List I → O → Type 0) (slot : I → ℕ) (cmp : I → I → Ordering) (key : I → K) (is_before : S → ℕ → Type 0) where
@@ -230,17 +228,22 @@ module _ {S I O K : Type 0} (next : S → ℕ → List I → S) (is_out : S → 
         outs = subst (λ (l : List I). AreOutsOf next slot is_out w.base l (told w)) (sym all) k.outs;
       }
 
-  no_slots : (xs : List I) → slots slot xs ≡ [] → xs ≡ []
+  no_slots : (xs : List I) → first (slots slot xs) ≡ None → xs ≡ []
   unfolding slots
   no_slots [] e = refl
   no_slots (x ∷ xs) e = absurd (some (slot x) (slots slot xs) e)
     where
-      some : (n : ℕ) (ms : List ℕ) → with_slot n ms ≡ [] → ⊥
+      some : (n : ℕ) (ms : List ℕ) → first (with_slot n ms) ≡ None → ⊥
       some n [] e = cc
-      some n (m ∷ ms) e = cond_both (eqb n m) (m ∷ ms) (n ∷ m ∷ ms) (λ l. l ≡ [] → ⊥) (λ t f. cc) (λ t f. cc) e
+      some n (m ∷ ms) e = cond_both (eqb n m) (m ∷ ms) (n ∷ m ∷ ms) (λ l. first l ≡ None → ⊥) (λ t f. cc) (λ t f. cc) e
 
-  pub nothing_dirty : (w : Seen S I O) (upto : ℕ) → dirty_slots slot w upto ≡ [] → dirty_items slot w upto ≡ []
+  pub nothing_dirty : (w : Seen S I O) (upto : ℕ) → first (dirty_slots slot w upto) ≡ None → dirty_items slot w upto ≡ []
   nothing_dirty w upto e = no_slots (dirty_items slot w upto) e
+
+  -- below the line nothing is left to fold
+  pub settled_is : (w : Seen S I O) (upto : ℕ) → SlotsRise slot w.items → Is w upto → first (dirty_slots slot w upto) ≡ None
+  unfolding slots
+  settled_is w upto r k = ap (λ l. first (slots slot l)) (dirty_is w upto upto r k ∙ Cuts.below_none slot upto (from slot upto w.items) (Cuts.from_le slot upto w.items))
 
   pub fresh : (s : S) (low : ℕ) → is_before s low → Is (record { base = s; items = []; states = []; outs = []; low = low; upto = low }) low
   unfolding slots

@@ -1,5 +1,5 @@
-ghost use Rattle.std.specs.Prelude.{◌≡◌, ◌<◌, ◌≤◌, ◌+◌, ◌*◌, ◌%◌, ◌^◌, ℕ, List, length};
-ghost use Rattle.std.specs.List.{fold};
+ghost use Rattle.std.specs.Prelude.{◌≡◌, ◌≢◌, IsTrue};
+ghost use Rattle.std.specs.List.{AllByRecursion};
 
 use crate::*;
 use std::alloc::Global;
@@ -92,6 +92,13 @@ fn mix_below(alloc: Global, items: &[(u64, u64)], upto: u64) -> Result<u64, Fail
     Ok(mix)
 }
 
+// Whether the item isn't there.
+fn is_new(items: &[(u64, u64)], item: (u64, u64)) -> bool
+    ensures { IsTrue result → AllByRecursion (λ y. y ≢ item) items.now }
+{
+    !items.contains(&item)
+}
+
 // A window from slot 10 on, all that came, and the steps that it took.
 #[derive(Drop)]
 struct Watched<L: Ledger> {
@@ -119,7 +126,7 @@ impl<L: Ledger> Watched<L> {
     fn insert(&mut self, rt: &impl Abort, slot: u64, number: u64) -> Result<(), Fail> {
         let item = (slot, number);
         assert!(rt; self.window.low() <= slot);
-        assert!(rt; !self.window.items().contains(&item));
+        assert!(rt; is_new(self.window.items(), item));
         self.window.insert(item)?;
         self.all.push(item)?;
         Ok(())
@@ -137,7 +144,7 @@ impl<L: Ledger> Watched<L> {
 
     // Closes the slots below one, and compares the base.
     fn close_below(&mut self, rt: &impl Abort, low: u64) -> Result<(), Fail> {
-        assert!(rt; self.window.dirty_from() == None);
+        assert!(rt; self.window.dirty_from().is_none());
         assert!(rt; self.window.low() <= low && low <= self.window.upto());
         self.window.close_below(low);
         let want = mix_below(self.alloc, &self.all, low)?;
@@ -192,24 +199,21 @@ fn reopens<L: Ledger>(rt: &impl Abort, watched: &mut Watched<L>) -> Result<(), F
 // Forty items in an order that the seed picks, with ticks and closes between them.
 fn agrees<L: Ledger>(rt: &impl Abort, watched: &mut Watched<L>, seed: u64) -> Result<(), Fail> {
     let mut random = seed;
-    let mut upto = 10;
-    let mut low = 10;
+    let mut upto = 10u64;
+    let mut low = 10u64;
     for number in 0..40u64 {
         random = random
             .wrapping_mul(6_364_136_223_846_793_005)
             .wrapping_add(1_442_695_040_888_963_407);
         let pick = random >> 40;
-        watched.insert(rt, low + pick % 8, number)?;
+        watched.insert(rt, low.saturating_add(pick % 8), number)?;
         if pick % 3 == 0 {
-            upto = (low + pick % 5).max(upto);
+            upto = low.saturating_add(pick % 5).max(upto);
             watched.settle(rt, upto)?;
             if pick % 2 == 0 {
-                low = upto - pick % 2;
+                low = upto;
                 watched.close_below(rt, low)?;
             }
-        }
-        if low > 1_000 {
-            return Ok(());
         }
     }
     watched.settle(rt, 2_000)

@@ -1,5 +1,5 @@
-use Rattle.std.proofs.Common.{◌≡◌, ◌∙◌, ◌<◌, ◌^◌, ap, sym, refl, arith, rules, drop, length, [], ◌∷◌}
-use Rattle.late_window.specs.Folding.{slots, group_count}
+use Rattle.std.proofs.Common.{◌≡◌, ◌∙◌, ◌<◌, ◌^◌, ap, arith, rules, drop, length}
+use Rattle.late_window.specs.Folding.{group_count}
 use Rattle.late_window.proofs.Groups.{BeginsWith, begins_with, group_within, slots_rise, low_all, slots_group, drop_rises}
 use Rattle.late_window.proofs.Cuts.{slots_within, no_items}
 use Rattle.late_window.proofs.running.count_slots.Goals as goal

@@ -1,4 +1,4 @@
-use Rattle.std.proofs.Common.{◌≡◌, ◌∙◌, ap}
+use Rattle.std.proofs.Common.{◌∙◌, ap}
 use Rattle.std.specs.Option.{unwrap_or}
 use Rattle.late_window.proofs.Latest.{latest_got, now_or}
 use Rattle.late_window.proofs.running.latest_of.Goals as goal
