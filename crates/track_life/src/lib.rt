@@ -1,6 +1,16 @@
-//! The life of tracks: after how many plots one is confirmed, and how long it's kept without another.
+//! The life of tracks: how they begin with a plot and go on with others, after how many of them
+//! one is confirmed, and how long one is kept without another.
+//!
+//! The terms are those of Bar-Shalom, Li and Kirubarajan, "Estimation with Applications to
+//! Tracking and Navigation" (2001): a track is tentative until it is confirmed.
 #![tactic(auto)]
 
 mod settings;
+mod tables;
+#[cfg(test)]
+mod tests;
+mod tracks;
 
 pub use settings::LifeSettings;
+pub use tables::{Table, expire};
+pub use tracks::Track;

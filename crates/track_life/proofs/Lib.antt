@@ -1,0 +1,3 @@
+pub mod Detected
+pub mod Expiry
+pub mod Told
