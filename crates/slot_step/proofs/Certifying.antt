@@ -11,7 +11,7 @@ use Rattle.assignment_dual.specs.Renumbering.{number_at, renumbered}
 use Rattle.slot_step.specs.Interleavings.{Interleaved}
 use Rattle.slot_step.specs.Interleavings.Interleaved.{neither, first, second}
 use Rattle.slot_step.specs.Batches.{Tracking, entries, least, of_radar, table_at, GateNone}
-use Rattle.slot_step.specs.Slots.{Ordered, OrderLaws, plot_radar, batch_table, run}
+use Rattle.slot_step.specs.Slots.{Ordered, OrderLaws, plot_radar, run}
 use Rattle.slot_step.specs.Certificates.{Certificate, plots, IsGateWalk, IsAt, IsPairedAs, IsCertificateOf, IsCertificateIn, AreCertificates}
 use Rattle.slot_step.specs.Parts.{merged, merged_certificates, DontCross, AreTwoParts}
 use Rattle.slot_step.proofs.Interleavings.{swapped, both_filter, all_of, all_contains, all_first, in_one, in_both, in_filter, contains_cons, contains_first, contains_later, contains_none}

@@ -1,5 +1,5 @@
 -- Lists that are put together.
-use Rattle.std.proofs.Common.{◌≡◌, ◌∙◌, ap, sym, refl, ℕ, zero, suc, ◌+◌, List, [], ◌∷◌, ◌++◌, length, Bool, true, false, cond, eqb, arith, subst, inl, inr}
+use Rattle.std.proofs.Common.{◌≡◌, ◌∙◌, ap, sym, refl, zero, suc, List, [], ◌∷◌, ◌++◌, Bool, true, false, cond, arith, subst, inl, inr}
 use Rattle.std.specs.Prelude.{◌⊎◌, Contains, filter}
 use Rattle.std.specs.List.{AllByRecursion}
 use Rattle.std.specs.Cmp.{IsTotalOrder}
@@ -154,10 +154,10 @@ module _ {X : Type 0} where
   one_interleaving cmp t _ _ _ _ (first x xs ys us m) (first _ _ _ vs n) h k = ap (λ (l : List X). x ∷ l) (one_interleaving cmp t xs ys us vs m n h.1 k.1)
   one_interleaving cmp t _ _ _ _ (first x xs _ us m) (second y _ ys vs n) h k =
       absurd (not_both_less cmp t x y
-        (all_contains (λ w. cmp x w ≡ Less) y us h.0 (in_both y (y ∷ ys) xs us (swapped _ _ _ m) (contains_first y y ys refl)))
-        (all_contains (λ w. cmp y w ≡ Less) x vs k.0 (in_both x (x ∷ xs) ys vs n (contains_first x x xs refl))))
+      (all_contains (λ w. cmp x w ≡ Less) y us h.0 (in_both y (y ∷ ys) xs us (swapped _ _ _ m) (contains_first y y ys refl)))
+      (all_contains (λ w. cmp y w ≡ Less) x vs k.0 (in_both x (x ∷ xs) ys vs n (contains_first x x xs refl))))
   one_interleaving cmp t _ _ _ _ (second y _ ys us m) (first x xs _ vs n) h k =
       absurd (not_both_less cmp t x y
-        (all_contains (λ w. cmp x w ≡ Less) y vs k.0 (in_both y (y ∷ ys) xs vs (swapped _ _ _ n) (contains_first y y ys refl)))
-        (all_contains (λ w. cmp y w ≡ Less) x us h.0 (in_both x (x ∷ xs) ys us m (contains_first x x xs refl))))
+      (all_contains (λ w. cmp x w ≡ Less) y vs k.0 (in_both y (y ∷ ys) xs vs (swapped _ _ _ n) (contains_first y y ys refl)))
+      (all_contains (λ w. cmp y w ≡ Less) x us h.0 (in_both x (x ∷ xs) ys us m (contains_first x x xs refl))))
   one_interleaving cmp t _ _ _ _ (second y xs ys us m) (second _ _ _ vs n) h k = ap (λ (l : List X). y ∷ l) (one_interleaving cmp t xs ys us vs m n h.1 k.1)

@@ -6,3 +6,5 @@ pub mod Tables
 pub mod Certifying
 pub mod Many
 pub mod Numbering
+pub mod Keyed
+pub mod Problems

@@ -4,7 +4,7 @@ use Rattle.std.specs.Prelude.{Contains}
 use Rattle.std.specs.List.{AllByRecursion, AllZip}
 use Rattle.slot_step.specs.Interleavings.{Interleaved}
 use Rattle.slot_step.specs.Batches.{Tracking}
-use Rattle.slot_step.specs.Slots.{Ordered, OrderLaws, IsBefore, IsGated, by_key, plot_slot, run}
+use Rattle.slot_step.specs.Slots.{Ordered, OrderLaws, IsGated, by_key, plot_slot, run}
 use Rattle.slot_step.specs.Certificates.{Certificate, AreCertificates}
 use Rattle.slot_step.specs.Parts.{merged, merged_certificates, AreBeside, DontCross, AreTwoParts, Part, all_merged, all_certificates, AreParts}
 use Rattle.slot_step.proofs.Interleavings.{two_first, alone, all_of_first, first_rises, in_one, contains_cons, contains_first, contains_later}

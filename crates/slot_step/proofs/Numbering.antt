@@ -1,5 +1,5 @@
 -- A run reads no numbers, and keeps those that there are.
-use Rattle.std.proofs.Common.{◌≡◌, ◌∙◌, ap, sym, refl, ℕ, zero, suc, ◌<◌, List, [], ◌∷◌, ◌++◌, map, Bool, true, false, cond, Option, Some, None, arith, subst}
+use Rattle.std.proofs.Common.{◌≡◌, ◌∙◌, ap, sym, refl, ℕ, zero, suc, ◌<◌, List, [], ◌∷◌, ◌++◌, map, Bool, true, false, cond, Option, Some, None, arith}
 use Rattle.std.specs.Prelude.{filter}
 use Rattle.std.specs.List.{AllByRecursion}
 use Rattle.std.specs.List.Sorted.{IsStrictlySortedBy}
@@ -7,7 +7,6 @@ use Rattle.std.specs.Ordering.{is_eq, ordering_reverse}
 use Rattle.std.specs.declared.cmp.Ordering.{Ordering}
 use Rattle.std.specs.declared.cmp.Ordering.TheVariants.{Less, Equal, Greater}
 use Rattle.std.proofs.lemmas.List.{map-append, length-map}
-use Rattle.assignment_dual.specs.Pairings.{Row}
 use Rattle.assignment_dual.specs.Least.{least_pairing}
 use Rattle.slot_step.specs.Batches.{Tracking, row, rows, entries, least, paired_plot, with_plot, updated_tracks, begun_tracks, batch_step, of_radar, table_at}
 use Rattle.slot_step.specs.Slots.{Ordered, OrderLaws, AreInSlot, IsBefore, by_birth, plot_radar, plot_slot, unexpired, radar_limit, run}

@@ -1,5 +1,5 @@
 -- Indices of two tables in the one that they make, and pairings put together.
-use Rattle.std.proofs.Common.{◌≡◌, ◌≢◌, ◌∙◌, ap, sym, refl, ℕ, zero, suc, ◌+◌, ◌<◌, List, [], ◌∷◌, length, map, Bool, true, false, Option, Some, None, IsSome, arith, subst, inl, inr}
+use Rattle.std.proofs.Common.{◌≡◌, ◌≢◌, ◌∙◌, ap, sym, refl, ℕ, zero, suc, ◌+◌, ◌<◌, List, [], ◌∷◌, length, map, Bool, true, false, Option, None, IsSome, arith, subst, inl, inr}
 use Rattle.std.specs.Prelude.{◌⊎◌}
 use Rattle.std.specs.List.{AllByRecursion}
 use Rattle.std.specs.List.Sorted.{IsStrictlyIncreasing}
@@ -7,7 +7,7 @@ use Rattle.std.proofs.lemmas.List.{length-map}
 use Rattle.slot_step.specs.Interleavings.{Interleaved}
 use Rattle.slot_step.specs.Interleavings.Interleaved.{neither, first, second}
 use Rattle.slot_step.proofs.Interleavings.{swapped}
-use Rattle.assignment_dual.specs.Pairings.{Row, IsLeast, part, GatesNone, Apart}
+use Rattle.assignment_dual.specs.Pairings.{IsLeast, part, GatesNone, Apart}
 use Rattle.assignment_dual.specs.Renumbering.{number_at, IsRenumbered, renumbered}
 use Rattle.assignment_dual.specs.Rests.{row_at}
 use Rattle.assignment_dual.proofs.Renumbering.{other_numbers}

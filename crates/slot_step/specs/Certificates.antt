@@ -1,6 +1,6 @@
 -- The certificates of a slot: for each batch the components of its gates, each with the part of the
 -- whole batch's least pairing that is its own and with prices that prove that part.
-use Rattle.std.specs.Prelude.{◌≡◌, ◌↔◌, ℕ, ℤ, zero, suc, List, [], ◌∷◌, length, Option, Some, None, IsSome, Contains, true}
+use Rattle.std.specs.Prelude.{◌≡◌, ◌↔◌, ℕ, ℤ, zero, suc, List, [], ◌∷◌, length, Option, Some, None, IsSome, Contains}
 use Rattle.std.specs.List.{AllByRecursion, AllZip}
 use Rattle.std.specs.List.Sorted.{IsStrictlySortedBy}
 use Rattle.assignment_dual.specs.Problems.{Problem, IsProblem, Proves}

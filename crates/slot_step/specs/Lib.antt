@@ -4,3 +4,5 @@ pub mod Slots
 pub mod Numbers
 pub mod Certificates
 pub mod Parts
+pub mod Keyed
+pub mod Problems

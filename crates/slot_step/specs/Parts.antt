@@ -1,12 +1,12 @@
 -- Parts of a slot's tracks and plots, when they cross, and what they make together.
-use Rattle.std.specs.Prelude.{◌≡◌, ℕ, List, [], ◌∷◌, fold, map, if◌then◌else◌, Contains}
+use Rattle.std.specs.Prelude.{ℕ, List, [], ◌∷◌, fold, map, if◌then◌else◌, Contains}
 use Rattle.std.specs.List.{AllByRecursion}
 use Rattle.std.specs.Ordering.{is_lt}
 use Rattle.std.specs.declared.cmp.Ordering.{Ordering}
 use Rattle.slot_step.specs.Interleavings.{Interleaved, AllInterleaved, KeysDiffer, EachPair}
 use Rattle.slot_step.specs.Batches.{Tracking}
 use Rattle.slot_step.specs.Slots.{Ordered, IsTable, ArePlots, AreInSlot, IsBefore, IsGated, by_birth}
-use Rattle.slot_step.specs.Certificates.{Certificate, AreCertificates}
+use Rattle.slot_step.specs.Certificates.{Certificate}
 
 -- x more, before the first that comes after it
 abbrev pub put_in : {X : Type 0} → (X → X → Ordering) → X → List X → List X

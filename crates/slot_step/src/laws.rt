@@ -1,10 +1,15 @@
 //! Laws of the slot's step.
 
-ghost use Rattle.std.specs.Prelude.{◌≡◌, ◌≤◌, ◌+◌, ◌⊎◌, ℕ, List, [], ◌∷◌, map, Contains};
+ghost use Rattle.std.specs.Prelude.{◌≡◌, ◌≤◌, ◌+◌, ◌⊎◌, ℕ, Bool, true, List, [], ◌∷◌, map, Contains, Option};
 ghost use Rattle.std.specs.List.{AllZip};
+ghost use Rattle.trk_base.specs.declared.keys.Key.{Key};
+ghost use Rattle.assignment_dual.specs.Pairings.{IsLeast};
+ghost use Rattle.assignment_dual.specs.Problems.{Problem, rows_of};
 ghost use Rattle.slot_step.specs.Interleavings.{Interleaved, KeysDiffer};
-ghost use Rattle.slot_step.specs.Batches.{Tracking, batch_step, GateNone};
+ghost use Rattle.slot_step.specs.Batches.{Tracking, least, batch_step, GateNone};
 ghost use Rattle.slot_step.specs.Slots.{Ordered, OrderLaws, IsTable, ArePlots, AreInSlot, IsBefore, IsGated, unexpired, batch_table, run};
+ghost use Rattle.slot_step.specs.Keyed.{keyed};
+ghost use Rattle.slot_step.specs.Problems.{IsProblemOf};
 ghost use Rattle.slot_step.specs.Numbers.{Numbering, NumberLaws, numbered, slot_step, without_numbers};
 ghost use Rattle.slot_step.specs.Certificates.{Certificate, AreCertificates};
 ghost use Rattle.slot_step.specs.Parts.{merged, merged_certificates, AreBeside, DontCross, AreTwoParts, Part, all_merged, all_certificates, AreParts};
@@ -19,6 +24,20 @@ pub fn empty_batch<T, P>()
 pub fn two_batches<T, P>()
     ensures { (k : Tracking T P) (one other both : List T) → Interleaved one other both → (plots others all : List P) → Interleaved plots others all
         → GateNone k.gate one others → GateNone k.gate other plots → Interleaved (batch_step k one plots) (batch_step k other others) (batch_step k both all) }
+{}
+
+/// The least pairing of the assignment problem whose edges are a batch's gates, by the indices of
+/// plots and tracks, is the batch's least pairing.
+pub fn problem_of_batch<T, P>()
+    ensures { (k : Tracking T P) (tracks : List T) (plots : List P) (p : Problem) → IsProblemOf k.gate tracks plots p → (xs : List (Option ℕ)) → IsLeast (rows_of p) xs → xs ≡ least k tracks plots }
+{}
+
+/// Keys in the one order of all plots meet what is asked of an order, whatever tracks and plots they
+/// are of: it is enough that an update keeps a track's birth, that a track's birth is the key of its
+/// first plot, and that a track which is kept in a slot was kept in each earlier one.
+pub fn keyed_tracks<T, P>()
+    ensures { (k : Tracking T P) (birth : T → Key) (key : P → Key) (kept : ℕ → T → Bool) → ((t : T) (p : P) → birth (k.update t p) ≡ birth t) → ((p : P) → birth (k.begin p) ≡ key p)
+        → ((t : T) (early late : ℕ) → early ≤ late → kept late t ≡ true → kept early t ≡ true) → OrderLaws k (keyed birth key kept) }
 {}
 
 /// Expiry at a slot and then at a later one is expiry at the later one.
