@@ -60,7 +60,7 @@ fn changes_of_biases(rt: HostRuntime) -> Result<(), Fail> {
     let alloc = rt.alloc();
     let counts = "admitted 1 unknown 0 early 0 ahead 0 notplots 0 malformed 0 other 0 old 0";
     let mut unchanged = CHANGED;
-    unchanged[35] = 0x78;
+    unchanged[34] = 0x78;
     let mut early = LATE_CHANGE;
     early[39] = 0x21;
     let mut unknown = LATE_CHANGE;
