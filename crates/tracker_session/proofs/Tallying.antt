@@ -35,8 +35,8 @@ raised_more : (n a b : ℕ) → raised n (a + b) ≡ raised (raised n a) b
 raised_more n zero b = ap (raised n) (omega arith)
 raised_more n (suc a) b = ap (raised n) (shifted a b) ∙ ap counted (omega arith) ∙ sym (raised_is (n + suc a) b)
   where
-  shifted : (a b : ℕ) → suc a + b ≡ suc (a + b)
-  shifted a b = omega arith
+    shifted : (a b : ℕ) → suc a + b ≡ suc (a + b)
+    shifted a b = omega arith
 
 -- ---- what was told of messages
 

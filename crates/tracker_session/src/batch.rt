@@ -1,6 +1,5 @@
 // The commands, in the order of their steps.
 ghost use Rattle.std.specs.Prelude.{◌≡◌, ◌⊎◌, ◌∷◌, [], ℕ, List, None, IfOk, string_bytes};
-
 ghost use Rattle.io_traits.specs.Touching.{Touches};
 ghost use Rattle.io_traits.specs.declared.host.Place.{Place};
 ghost use Rattle.tracker_session.specs.declared.status.Status.{Status};

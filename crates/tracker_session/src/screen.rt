@@ -104,7 +104,9 @@ fn biases_text(alloc: Global, counts: &Counts) -> Result<String, AllocError>
         return Ok(String::new(alloc));
     }
     let Counts {
-        biases, refused, ..
+        biases,
+        refused,
+        ..
     } = *counts;
     format!(in alloc; " biases {biases} refused {refused}")
 }

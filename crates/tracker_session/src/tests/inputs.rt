@@ -72,8 +72,9 @@ fn changes_of_biases(rt: HostRuntime) -> Result<(), Fail> {
         (&LATE_CHANGE[..33], &PICTURE, 1, 0, 0),
     ];
     for (input, output, editions, biases, refused) in rows {
-        let screen =
-            format!(in alloc; "editions {editions} {counts} biases {biases} refused {refused}\n")?;
+        let screen = format!(in alloc;
+            "editions {editions} {counts} biases {biases} refused {refused}\n"
+        )?;
         let given: (&[u8], &[u8], &[u64]) = (SETTINGS, input, &[]);
         compare(&rt, alloc, given, Status::Done, output, screen.as_str())?;
     }
