@@ -7,7 +7,7 @@ use std::marker::Brand;
 use std::process::Abort;
 use std::sync::ledger::{Blank, Ledger};
 use std::test::Fail;
-use trk_base::{NoMemory, Steps, Ticket};
+use trk_base::{NoMemory, Steps, Ticket, charge};
 
 // A sum with a history: each number goes into a mix of all before it, so the order tells. An item
 // is a slot and a number.
@@ -238,6 +238,30 @@ fn agrees_with<L: Ledger>(
     requires one { blank.parts ≡ 1 }
 {
     agrees(rt, &mut Watched::<L>::new(alloc, blank), seed)
+}
+
+// Folds elsewhere what is to be folded, and hands it in.
+fn places<L: Ledger>(rt: &impl Abort, alloc: Global, blank: Blank) -> Result<(), Fail>
+    requires name { blank.name ≡ L.name }
+    requires parts { blank.parts ≡ L.parts }
+    requires one { blank.parts ≡ 1 }
+{
+    let mut window = Window::<Trails>::new(alloc, Trail { mix: 7, last: 0 }, 10);
+    window.insert_all(&[(12, 5), (11, 9)])?;
+    let (state, items) = window.span(13)?;
+    let mut steps = Steps::<L>::new(blank);
+    let mut ticket = charge(count_slots::<Trails>(&items) as u64, &mut steps);
+    let (states, outs) = run_slots::<Trails>(alloc, &state, &items, &mut ticket)?;
+    window.place(13, states, outs)?;
+    assert!(rt; window.state().mix == (7 * 31 + 9) * 31 + 5);
+    assert!(rt; window.outs().iter().map(|out| out.0).eq([11, 12]));
+    Ok(())
+}
+
+#[test]
+fn places_what_was_folded_elsewhere(rt: HostRuntime) -> Result<(), Fail> {
+    marks_last::<Trail, (u64, u64)>();
+    places::<Brand>(&rt, rt.alloc(), Blank::new(1))
 }
 
 #[test]
