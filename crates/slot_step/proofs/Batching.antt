@@ -90,7 +90,7 @@ updated_mix {T} update _ _ _ (second y us vs ws m) f g h a b =
     subst (λ (t : T). Interleaved (updated_tracks update f us) (updated_tracks update g (y ∷ vs)) (t ∷ updated_tracks update (λ i. h (suc i)) ws)) (ap (with_plot update y) (sym (b 0 (omega arith)))) (second (with_plot update y (g 0)) _ _ _ tail)
 
 module _ {T P : Type 0} (k : Tracking T P) where
-  least_length : (ts : List T) (ps : List P) → length (least k ts ps) ≡ length ps
+  pub least_length : (ts : List T) (ps : List P) → length (least k ts ps) ≡ length ps
   least_length ts ps = gate_count (rows k.gate ts ps) (least k ts ps) (least_is k ts ps).pairing.gates ∙ rows_length k.gate ts ps
 
   below_all : (ts : List T) (ps : List P) (xs : List (Option ℕ)) → AllGate (rows k.gate ts ps) xs → Below (length ts) xs

@@ -23,15 +23,15 @@ use Rattle.slot_step.proofs.Tables.{in_two, none_gated, rested, plots_differ}
 gated_not : {T P : Type 0} (gate : T → P → Option ℕ) (ts : List T) (ps : List P) (t : T) (p : P) → GateNone gate ts ps → Contains ts t → Contains ps p → IsSome (gate t p) → ⊥
 gated_not gate ts ps t p h c d s = let e : gate t p ≡ None = all_contains (λ q. gate t q ≡ None) p ps (all_contains (λ u. AllByRecursion (λ q. gate u q ≡ None) ps) t ts h c) d in let z = subst IsSome e s in cc
 
-some_is : (x : Option ℕ) (c : ℕ) → x ≡ Some c → IsSome x
+pub some_is : (x : Option ℕ) (c : ℕ) → x ≡ Some c → IsSome x
 some_is x c e = subst IsSome (sym e) refl
 
-within : {X : Type 0} (xs : List X) (i : ℕ) (x : X) → IsAt xs i x → i < length xs
+pub within : {X : Type 0} (xs : List X) (i : ℕ) (x : X) → IsAt xs i x → i < length xs
 within [] i x h = absurd h
 within (y ∷ ys) zero x h = omega arith
 within (y ∷ ys) (suc i) x h = omega (arith, within ys i x h)
 
-at_contains : {X : Type 0} (xs : List X) (i : ℕ) (x : X) → IsAt xs i x → Contains xs x
+pub at_contains : {X : Type 0} (xs : List X) (i : ℕ) (x : X) → IsAt xs i x → Contains xs x
 at_contains [] i x h = absurd h
 at_contains (y ∷ ys) zero x h = contains_first y x ys h
 at_contains (y ∷ ys) (suc i) x h = contains_later y x ys (at_contains ys i x h)

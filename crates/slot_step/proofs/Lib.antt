@@ -8,3 +8,5 @@ pub mod Many
 pub mod Numbering
 pub mod Keyed
 pub mod Problems
+pub mod Slotwise
+pub mod Tracker

@@ -52,7 +52,7 @@ module _ {T P : Type 0} (gate : T → P → Option ℕ) where
       let e : edge_at q.edges d.0 ≡ (i, j, c) = get_or_default q.edges d.0 (0, 0, 0) (i, j, c) d.1 ∙ d.2 in
       subst (λ (x : Edge). row_of q.edges x.0 x.1 ≡ Some x.2) e (row_found q.edges d.0 h.rising d.1)
 
-  of_edges : (q : Problem) (i j c : ℕ) → row_of q.edges i j ≡ Some c → Contains q.edges (i, j, c)
+  pub of_edges : (q : Problem) (i j c : ℕ) → row_of q.edges i j ≡ Some c → Contains q.edges (i, j, c)
   of_edges q i j c e = row_tells (λ a b d. Contains q.edges (a, b, d)) q.edges i j c (λ k l. Contains-get_or q.edges k (0, 0, 0) l) e
 
   one_row : (ts : List T) (ps : List P) (q : Problem) → IsProblemOf gate ts ps q → (i j : ℕ) (p : P) → IsAt ps i p → row gate ts p j ≡ row_of q.edges i j

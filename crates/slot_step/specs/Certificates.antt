@@ -1,6 +1,6 @@
 -- The certificates of a slot: for each batch the components of its gates, each with the part of the
 -- whole batch's least pairing that is its own and with prices that prove that part.
-use Rattle.std.specs.Prelude.{◌≡◌, ◌↔◌, ℕ, ℤ, zero, suc, List, [], ◌∷◌, length, Option, Some, None, IsSome, Contains}
+use Rattle.std.specs.Prelude.{◌≡◌, ◌<◌, ◌↔◌, ℕ, ℤ, zero, suc, List, [], ◌∷◌, length, Option, Some, None, IsSome, Contains}
 use Rattle.std.specs.List.{AllByRecursion, AllZip}
 use Rattle.std.specs.List.Sorted.{IsStrictlySortedBy}
 use Rattle.assignment_dual.specs.Problems.{Problem, IsProblem, Proves}
@@ -94,6 +94,19 @@ pub record IsCertificateOf {T P K : Type 0} (k : Tracking T P) (o : Ordered T P 
 -- a component of the batch of its first plot in slot n
 abbrev pub IsCertificateIn : {T P K : Type 0} → Tracking T P → Ordered T P K → List T → ℕ → List P → Certificate P K → Type 0
 IsCertificateIn k o ts n ps c = IsCertificateOf k o (batch_table k o ts n ps (plot_radar o c.first)) (of_radar (plot_radar o) (plot_radar o c.first) ps) c
+
+-- one for each component of the batch ps, which finds the tracks ts, in the order of their least plots
+pub record AreCertificatesOf {T P K : Type 0} (k : Tracking T P) (o : Ordered T P K) (ts : List T) (ps : List P) (cs : List (Certificate P K)) : Type 0 where
+  pub each : AllByRecursion (IsCertificateOf k o ts ps) cs
+  pub whole : (p : P) → Contains ps p → (c : Certificate P K) × Contains cs c × Contains (plots c) p
+  pub order : IsStrictlySortedBy (λ c d. o.cmp (o.key c.first) (o.key d.first)) cs
+
+-- one for each component of slot n's batches of the radars below r, in the order of radar and least plot
+pub record AreCertificatesBelow {T P K : Type 0} (k : Tracking T P) (o : Ordered T P K) (ts : List T) (n : ℕ) (ps : List P) (r : ℕ) (cs : List (Certificate P K)) : Type 0 where
+  pub each : AllByRecursion (IsCertificateIn k o ts n ps) cs
+  pub radars : AllByRecursion (λ c. plot_radar o c.first < r) cs
+  pub whole : (p : P) → Contains ps p → plot_radar o p < r → (c : Certificate P K) × Contains cs c × Contains (plots c) p
+  pub order : IsStrictlySortedBy (λ c d. o.cmp (o.key c.first) (o.key d.first)) cs
 
 -- one for each component of the batches of slot n, in the order of radar and least plot
 pub record AreCertificates {T P K : Type 0} (k : Tracking T P) (o : Ordered T P K) (ts : List T) (n : ℕ) (ps : List P) (cs : List (Certificate P K)) : Type 0 where

@@ -6,3 +6,4 @@ pub mod Certificates
 pub mod Parts
 pub mod Keyed
 pub mod Problems
+pub mod Tracker

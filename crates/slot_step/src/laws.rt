@@ -1,17 +1,20 @@
 //! Laws of the slot's step.
 
-ghost use Rattle.std.specs.Prelude.{◌≡◌, ◌≤◌, ◌+◌, ◌⊎◌, ℕ, Bool, true, List, [], ◌∷◌, map, Contains, Option};
-ghost use Rattle.std.specs.List.{AllZip};
+ghost use Rattle.std.specs.Prelude.{◌≡◌, ◌<◌, ◌≤◌, ◌+◌, ◌++◌, ◌⊎◌, ℕ, Bool, true, List, [], ◌∷◌, map, Contains, Option};
+ghost use Rattle.std.specs.List.{AllByRecursion, AllZip};
 ghost use Rattle.trk_base.specs.declared.keys.Key.{Key};
 ghost use Rattle.assignment_dual.specs.Pairings.{IsLeast};
 ghost use Rattle.assignment_dual.specs.Problems.{Problem, rows_of};
+ghost use Rattle.track_life.specs.declared.settings.LifeSettings.{LifeSettings};
+ghost use Rattle.track_life.specs.Tracks.{TrackState};
 ghost use Rattle.slot_step.specs.Interleavings.{Interleaved, KeysDiffer};
-ghost use Rattle.slot_step.specs.Batches.{Tracking, least, batch_step, GateNone};
-ghost use Rattle.slot_step.specs.Slots.{Ordered, OrderLaws, IsTable, ArePlots, AreInSlot, IsBefore, IsGated, unexpired, batch_table, run};
+ghost use Rattle.slot_step.specs.Batches.{Tracking, least, batch_step, of_radar, GateNone};
+ghost use Rattle.slot_step.specs.Slots.{Ordered, OrderLaws, IsTable, ArePlots, AreInSlot, IsBefore, IsGated, plot_radar, radar_limit, unexpired, batch_table, run};
 ghost use Rattle.slot_step.specs.Keyed.{keyed};
 ghost use Rattle.slot_step.specs.Problems.{IsProblemOf};
+ghost use Rattle.slot_step.specs.Tracker.{tracking, ordered, numbering};
 ghost use Rattle.slot_step.specs.Numbers.{Numbering, NumberLaws, numbered, slot_step, without_numbers};
-ghost use Rattle.slot_step.specs.Certificates.{Certificate, AreCertificates};
+ghost use Rattle.slot_step.specs.Certificates.{Certificate, AreCertificates, AreCertificatesOf, AreCertificatesBelow};
 ghost use Rattle.slot_step.specs.Parts.{merged, merged_certificates, AreBeside, DontCross, AreTwoParts, Part, all_merged, all_certificates, AreParts};
 
 /// A batch without plots changes nothing.
@@ -30,6 +33,15 @@ pub fn two_batches<T, P>()
 /// plots and tracks, is the batch's least pairing.
 pub fn problem_of_batch<T, P>()
     ensures { (k : Tracking T P) (tracks : List T) (plots : List P) (p : Problem) → IsProblemOf k.gate tracks plots p → (xs : List (Option ℕ)) → IsLeast (rows_of p) xs → xs ≡ least k tracks plots }
+{}
+
+/// The certificates of a slot are those of its batches, one batch after the other in rising radar.
+pub fn batch_certificates<T, P, K>()
+    ensures none { (k : Tracking T P) (o : Ordered T P K) → OrderLaws k o → (tracks : List T) (slot : ℕ) (plots : List P) → AreCertificatesBelow k o tracks slot plots 0 [] }
+    ensures more { (k : Tracking T P) (o : Ordered T P K) → OrderLaws k o → (tracks : List T) (slot : ℕ) (plots : List P) (radar : ℕ) (cs ds : List (Certificate P K)) → AreInSlot o slot plots → AreCertificatesBelow k o tracks slot plots radar cs
+        → AreCertificatesOf k o (batch_table k o tracks slot plots radar) (of_radar (plot_radar o) radar plots) ds → AreCertificatesBelow k o tracks slot plots (radar + 1) (cs ++ ds) }
+    ensures all { (k : Tracking T P) (o : Ordered T P K) → OrderLaws k o → (tracks : List T) (slot : ℕ) (plots : List P) (cs : List (Certificate P K)) → AllByRecursion (λ p. plot_radar o p < radar_limit) plots
+        → AreCertificatesBelow k o tracks slot plots radar_limit cs → AreCertificates k o tracks slot plots cs }
 {}
 
 /// Keys in the one order of all plots meet what is asked of an order, whatever tracks and plots they
@@ -119,4 +131,12 @@ pub fn unread_numbers<T, P, K>()
         → numbered o m before one ≡ numbered o m before other }
     ensures kept { (k : Tracking T P) (o : Ordered T P K) (m : Numbering T) → OrderLaws k o → NumberLaws k o m → (tracks : List T) (slot : ℕ) (plots : List P) → IsBefore o tracks slot → AreInSlot o slot plots
         → slot_step k o m tracks slot plots ≡ m.assigned (run k o tracks slot plots) }
+{}
+
+/// The tracker's tracks and plots meet what the laws ask, whatever its settings, and so do their
+/// numbers where giving them changes nothing else.
+pub fn tracker_laws()
+    ensures ordered { (life : LifeSettings) → OrderLaws (tracking life) (ordered life) }
+    ensures numbered { (life : LifeSettings) (assigned : List TrackState → List TrackState) → ((tracks : List TrackState) → without_numbers (numbering assigned) (assigned tracks) ≡ without_numbers (numbering assigned) tracks)
+        → NumberLaws (tracking life) (ordered life) (numbering assigned) }
 {}
