@@ -8,5 +8,6 @@ pub mod Many
 pub mod Numbering
 pub mod Keyed
 pub mod Problems
+pub mod Components
 pub mod Slotwise
 pub mod Tracker

@@ -6,4 +6,5 @@ pub mod Certificates
 pub mod Parts
 pub mod Keyed
 pub mod Problems
+pub mod Components
 pub mod Tracker

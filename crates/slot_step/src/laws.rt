@@ -1,10 +1,12 @@
 //! Laws of the slot's step.
 
-ghost use Rattle.std.specs.Prelude.{◌≡◌, ◌<◌, ◌≤◌, ◌+◌, ◌++◌, ◌⊎◌, ℕ, Bool, true, List, [], ◌∷◌, map, Contains, Option};
+ghost use Rattle.std.specs.Prelude.{◌≡◌, ◌<◌, ◌≤◌, ◌+◌, ◌++◌, ◌⊎◌, ℕ, Bool, true, List, [], ◌∷◌, length, map, Contains, Option};
 ghost use Rattle.std.specs.List.{AllByRecursion, AllZip};
 ghost use Rattle.trk_base.specs.declared.keys.Key.{Key};
 ghost use Rattle.assignment_dual.specs.Pairings.{IsLeast};
 ghost use Rattle.assignment_dual.specs.Problems.{Problem, rows_of};
+ghost use Rattle.cluster_split.specs.declared.splitting.Component.{Component};
+ghost use Rattle.cluster_split.specs.Components.{AreComponents};
 ghost use Rattle.track_life.specs.declared.settings.LifeSettings.{LifeSettings};
 ghost use Rattle.track_life.specs.Tracks.{TrackState};
 ghost use Rattle.slot_step.specs.Interleavings.{Interleaved, KeysDiffer};
@@ -12,6 +14,7 @@ ghost use Rattle.slot_step.specs.Batches.{Tracking, least, batch_step, of_radar,
 ghost use Rattle.slot_step.specs.Slots.{Ordered, OrderLaws, IsTable, ArePlots, AreInSlot, IsBefore, IsGated, plot_radar, radar_limit, unexpired, batch_table, run};
 ghost use Rattle.slot_step.specs.Keyed.{keyed};
 ghost use Rattle.slot_step.specs.Problems.{IsProblemOf};
+ghost use Rattle.slot_step.specs.Components.{edge_pairs, IsSolved};
 ghost use Rattle.slot_step.specs.Tracker.{tracking, ordered, numbering};
 ghost use Rattle.slot_step.specs.Numbers.{Numbering, NumberLaws, numbered, slot_step, without_numbers};
 ghost use Rattle.slot_step.specs.Certificates.{Certificate, AreCertificates, AreCertificatesOf, AreCertificatesBelow};
@@ -33,6 +36,14 @@ pub fn two_batches<T, P>()
 /// plots and tracks, is the batch's least pairing.
 pub fn problem_of_batch<T, P>()
     ensures { (k : Tracking T P) (tracks : List T) (plots : List P) (p : Problem) → IsProblemOf k.gate tracks plots p → (xs : List (Option ℕ)) → IsLeast (rows_of p) xs → xs ≡ least k tracks plots }
+{}
+
+/// The components of a batch's gate graph, each with its own part of the batch's problem solved, give
+/// the certificates of the batch: each pairs its plots as the whole batch's least pairing does, each
+/// plot stands in one, and they are in the order of their least plots.
+pub fn component_certificates<T, P, K>()
+    ensures { (k : Tracking T P) (o : Ordered T P K) → OrderLaws k o → (tracks : List T) (batch : List P) (p : Problem) → IsTable o tracks → ArePlots o batch → IsProblemOf k.gate tracks batch p
+        → (parts : List Component) (cs : List (Certificate P K)) → AreComponents (length batch) (edge_pairs p.edges) parts → AllZip (IsSolved o tracks batch p) parts cs → AreCertificatesOf k o tracks batch cs }
 {}
 
 /// The certificates of a slot are those of its batches, one batch after the other in rising radar.

@@ -11,7 +11,7 @@
 mod laws;
 
 pub use laws::{
-    batch_certificates, empty_batch, expired_twice, keyed_tracks, merged_tables, problem_of_batch,
-    resting, run_in_parts, run_in_two_parts, tables_before, tracker_laws, two_batches,
-    unread_numbers,
+    batch_certificates, component_certificates, empty_batch, expired_twice, keyed_tracks,
+    merged_tables, problem_of_batch, resting, run_in_parts, run_in_two_parts, tables_before,
+    tracker_laws, two_batches, unread_numbers,
 };
