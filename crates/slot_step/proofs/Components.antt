@@ -1,5 +1,5 @@
 -- The components of a batch's gates are parts of its least pairing, and make its certificates.
-use Rattle.std.proofs.Common.{◌≡◌, ◌∙◌, ap, sym, refl, ℕ, zero, suc, ◌+◌, ◌<◌, ◌≤◌, List, [], ◌∷◌, length, get_or, map, Option, Some, None, IsSome, arith, subst, inl, inr}
+use Rattle.std.proofs.Common.{◌≡◌, ◌∙◌, ap, sym, refl, ℕ, zero, suc, ◌+◌, ◌<◌, List, [], ◌∷◌, length, get_or, map, Option, Some, None, IsSome, arith, subst, inl, inr}
 use Rattle.std.specs.Prelude.{◌⊎◌, Contains, All, IfSome, option_map}
 use Rattle.std.specs.List.{AllByRecursion, AllZip}
 use Rattle.std.specs.List.Sorted.{IsStrictlyIncreasing, IsStrictlySortedBy}
@@ -24,7 +24,7 @@ use Rattle.cluster_split.proofs.Classes.{mapped, from_mapped}
 use Rattle.cluster_split.proofs.Ranges.{rises_far, rises_once}
 use Rattle.cluster_split.proofs.Splittings.{first_least}
 use Rattle.cluster_split.proofs.Walking.{itself, joined, step, back}
-use Rattle.slot_step.specs.Batches.{Tracking, row, rows, entries, least}
+use Rattle.slot_step.specs.Batches.{Tracking, rows, entries, least}
 use Rattle.slot_step.specs.Slots.{Ordered, OrderLaws, ArePlots, IsTable, by_key, by_birth}
 use Rattle.slot_step.specs.Certificates.{Certificate, plots, IsAt, IsGateAt, IsGateWalk, ShareGate, AreJoined, GatesOneOf, IsPairedAs, IsCertificateOf}
 use Rattle.slot_step.specs.Problems.{IsGateBetween, IsProblemOf}
@@ -32,7 +32,7 @@ use Rattle.slot_step.specs.Components.{edge_pairs, AreAt, IsSolved}
 use Rattle.slot_step.proofs.Interleavings.{all_contains, all_of, contains_cons, contains_first, contains_later, contains_none}
 use Rattle.slot_step.proofs.Weaving.{least_is}
 use Rattle.slot_step.proofs.Batching.{least_length}
-use Rattle.slot_step.proofs.Problems.{stands, one_at, of_edges, problem_rows}
+use Rattle.slot_step.proofs.Problems.{one_at, of_edges, problem_rows}
 use Rattle.slot_step.proofs.Certifying.{within, at_contains, some_is}
 use Rattle.slot_step.proofs.Tables.{keys_differ}
 

@@ -1,5 +1,5 @@
 -- The certificates of a slot, batch by batch.
-use Rattle.std.proofs.Common.{◌≡◌, ap, sym, refl, ℕ, suc, ◌+◌, ◌<◌, List, [], ◌∷◌, ◌++◌, eqb, arith, subst, inl, inr}
+use Rattle.std.proofs.Common.{◌≡◌, sym, refl, ℕ, ◌+◌, ◌<◌, List, [], ◌∷◌, ◌++◌, eqb, arith, subst, inl, inr}
 use Rattle.std.specs.Prelude.{Contains}
 use Rattle.std.specs.List.{AllByRecursion}
 use Rattle.std.specs.List.Sorted.{IsStrictlySortedBy}
@@ -9,7 +9,7 @@ use Rattle.std.proofs.lemmas.Bool.{eqb-true, eq-eqb, cases_lt}
 use Rattle.cluster_split.proofs.Ranges.{kept_in}
 use Rattle.slot_step.specs.Batches.{Tracking, of_radar}
 use Rattle.slot_step.specs.Slots.{Ordered, OrderLaws, AreInSlot, plot_radar, plot_slot, batch_table, radar_limit}
-use Rattle.slot_step.specs.Certificates.{Certificate, plots, IsCertificateOf, IsCertificateIn, AreCertificates, AreCertificatesOf, AreCertificatesBelow}
+use Rattle.slot_step.specs.Certificates.{Certificate, IsCertificateOf, IsCertificateIn, AreCertificates, AreCertificatesOf, AreCertificatesBelow}
 use Rattle.slot_step.proofs.Interleavings.{all_of, all_append, all_weaker, all_contains, in_filter, filter_passes, contains_cons, contains_first, contains_later, contains_none}
 
 contains_left : {X : Type 0} (x : X) (xs ys : List X) → Contains xs x → Contains (xs ++ ys) x

@@ -1,5 +1,5 @@
 -- The tracker's tracks meet what is asked of tracks.
-use Rattle.std.proofs.Common.{◌≡◌, refl, ℕ, ◌+◌, ◌*◌, ◌≤◌, Bool, true, List, arith}
+use Rattle.std.proofs.Common.{◌≡◌, refl, ℕ, ◌+◌, ◌*◌, ◌≤◌, true, List, arith}
 use Rattle.std.proofs.lemmas.Bool.{leb-true, le-leb}
 use Rattle.plot_geometry.specs.Plots.{PlanePlot}
 use Rattle.track_life.specs.declared.settings.LifeSettings.{LifeSettings}
