@@ -1,5 +1,6 @@
 -- What came of checking a price file, before Screen got anything.
-use Rattle.std.specs.Prelude.{◌≡◌, ◌⊎◌, ⊤, ℕ, List, [], ◌∷◌, ◌++◌, All, Result, Ok, Err}
+use Rattle.std.specs.Prelude.{◌≡◌, ◌<◌, ◌⊎◌, ⊤, ℕ, List, [], ◌∷◌, ◌++◌, All, Result, Ok, Err, length, take, slice_index}
+use Rattle.assignment_dual.specs.Problems.{Proves}
 use Rattle.io_traits.specs.Host.{HostState}
 use Rattle.io_traits.specs.Touching.{Touches}
 use Rattle.io_traits.specs.declared.host.Place.TheVariants as places
@@ -7,21 +8,31 @@ use Rattle.io_traits.specs.declared.host.Way.TheVariants as ways
 use Rattle.price_form.specs.declared.certs.Cert.{Cert}
 use Rattle.price_form.specs.declared.certs.PriceRecord.{PriceRecord}
 use Rattle.price_form.specs.declared.certs.PriceRecord.TheVariants.{Cert as Certified}
+use Rattle.price_form.specs.Reading.{HasCert}
 use Rattle.tracker_session.specs.declared.status.Status.{Status}
 use Rattle.tracker_session.specs.declared.status.Status.TheVariants.{Input, Memory, NotProved}
 use Rattle.tracker_session.specs.Checking.{Checks, HasFileFault, IsProved, certificates_in, proved, fails, fault}
 use Rattle.tracker_session.specs.Places.{BoundAtMost, PlaceRead, StopsReading}
 
--- why octets aren't taken as records
+-- why octets aren't taken as a price file
 abbrev pub StopsTaking : List ℕ → Status → Type 0
 StopsTaking octets (Input offset) = HasFileFault octets offset
 StopsTaking octets Memory = ⊤
 StopsTaking octets _ = ⊥
 
--- all records prove, and so many of them are certificates
-pub record RecordsProve (records : List PriceRecord) (count : ℕ) : Type 0 where
-  pub each : All IsProved records
-  pub counted : count ≡ certificates_in records
+-- the certificate that begins at an offset proves its pairing
+abbrev pub ProvesAt : List ℕ → ℕ → Type 0
+ProvesAt octets at = (c : Cert) → HasCert octets at c → Proves c.costs c.pairing c.u c.v
+
+-- and it doesn't
+abbrev pub FailsAt : List ℕ → ℕ → Type 0
+FailsAt octets at = (c : Cert) → HasCert octets at c → Proves c.costs c.pairing c.u c.v → ⊥
+
+-- the certificate of this number doesn't prove, and all before it do
+pub record IsFirstFailure (octets offsets : List ℕ) (index : ℕ) : Type 0 where
+  pub inside : index < length offsets
+  pub before : All (ProvesAt octets) (take index offsets)
+  pub fails : FailsAt octets (slice_index offsets index)
 
 -- the first that doesn't prove is this certificate
 pub record RecordFails (records : List PriceRecord) (index offset : ℕ) : Type 0 where
@@ -32,10 +43,6 @@ pub record RecordFails (records : List PriceRecord) (index offset : ℕ) : Type 
   pub each : All IsProved before
   pub fails : IsProved (Certified cert offset) → ⊥
   pub counted : index ≡ certificates_in before
-
-abbrev pub StopsProving : List PriceRecord → Status → Type 0
-StopsProving records (NotProved index offset) = RecordFails records index offset
-StopsProving records _ = ⊥
 
 -- the answer is the verdict on the octets, or memory is wanting
 abbrev pub Judged : List ℕ → Result ℕ Status → Type 0

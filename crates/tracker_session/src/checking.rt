@@ -1,17 +1,16 @@
 // The certificates of a price file, judged one beside the other.
-ghost use Rattle.std.specs.Prelude.{◌≡◌, ◌≤◌, ◌↔◌, None, All, IsTrue, IfErr, IfOk, MatchResult, length, string_bytes};
-ghost use Rattle.std.specs.List.{AllZip};
+ghost use Rattle.std.specs.Prelude.{◌≡◌, ◌<◌, ◌≤◌, ◌^◌, None, All, IfErr, IfOk, MatchBool, MatchOption, length, string_bytes};
+ghost use Rattle.io_traits.specs.Places.{place_limit};
 ghost use Rattle.io_traits.specs.declared.host.Place.{Place};
-ghost use Rattle.price_form.specs.Files.{IsRecord};
-ghost use Rattle.tracker_session.specs.Checking.{IsFile, IsProved};
-ghost use Rattle.tracker_session.specs.CheckRuns.{CheckRan, Judged, RecordsProve, StopsProving, StopsTaking};
+ghost use Rattle.price_form.specs.Reading.{AreOffsets, BeginsCert};
+ghost use Rattle.tracker_session.specs.CheckRuns.{CheckRan, FailsAt, IsFirstFailure, Judged, ProvesAt, StopsTaking};
 
 use crate::reading::read_file;
 use crate::status::Status;
 use io_traits::{Host, PLACE_LIMIT, Place};
-use price_form::{PriceRecord, PricesError, check, prefix_fault, read_prices};
+use price_form::{PricesError, certificate_offsets, check_at, prefix_fault};
 use rayon::prelude::*;
-use std::alloc::{AllocError, Global};
+use std::alloc::Global;
 use std::thread::Threads;
 
 /// Binds Prices and reads it, and judges what it had: how many certificates there are, all of which
@@ -33,76 +32,54 @@ pub fn check_prices<R: Threads + Sync, H: Host>(
 fn judge_prices<R: Threads + Sync>(rt: &R, alloc: Global, octets: &[u8]) -> Result<u64, Status>
     ensures { Judged octets.now result }
 {
-    let records = take_records(alloc, octets)?;
-    let Ok(answers) = prove_all(rt, alloc, &records) else {
-        return Err(Status::Memory);
-    };
-    count_proved(&records, &answers)
+    let offsets = take_offsets(alloc, octets)?;
+    let count = offsets.len();
+    match first_failure(rt, octets, &offsets) {
+        None => Ok(count as u64),
+        Some(i) => Err(Status::NotProved {
+            index: i as u64,
+            offset: offsets[i],
+        }),
+    }
 }
 
-// The records of a price file that doesn't pass the limit.
-fn take_records(alloc: Global, octets: &[u8]) -> Result<Vec<PriceRecord>, Status>
-    ensures file { IfOk result (λ v. IsFile octets.now v.items) }
+// Where each certificate begins in a price file that doesn't pass the limit.
+fn take_offsets(alloc: Global, octets: &[u8]) -> Result<Vec<usize>, Status>
+    ensures within { IfOk result (λ v. length octets.now ≤ place_limit) }
+    ensures file { IfOk result (λ v. AreOffsets octets.now v.items) }
     ensures stops { IfErr result (StopsTaking octets.now) }
 {
     if octets.len() > PLACE_LIMIT {
         let offset = prefix_fault(&octets[..PLACE_LIMIT]);
         return Err(Status::Input { offset });
     }
-    match read_prices(alloc, octets) {
-        Ok(records) => Ok(records),
+    match certificate_offsets(alloc, octets) {
+        Ok(offsets) => Ok(offsets),
         Err(PricesError::Fault { offset }) => Err(Status::Input { offset }),
         Err(PricesError::NoMemory) => Err(Status::Memory),
     }
 }
 
-// Whether a record proves, if it is a certificate.
-fn proves(record: &PriceRecord) -> bool
-    requires { IsRecord record.now }
-    ensures { IsTrue result ↔ IsProved record.now }
+// Whether the certificate that begins at an offset doesn't prove.
+fn fails_at(octets: &[u8], at: usize) -> bool
+    requires { BeginsCert octets.now at }
+    ensures { MatchBool result (FailsAt octets.now at) (ProvesAt octets.now at) }
 {
-    match record {
-        PriceRecord::Edition { .. } => true,
-        PriceRecord::Cert { cert, .. } => check(cert),
-    }
+    !check_at(octets, at)
 }
 
-// Whether each record proves, in the order of the file, by as many threads as there are processors.
-fn prove_all<R: Threads + Sync>(
-    rt: &R,
-    alloc: Global,
-    records: &[PriceRecord],
-) -> Result<Vec<bool>, AllocError>
-    requires { All IsRecord records.now }
-    ensures { IfOk result (λ v. AllZip (λ one answer. IsTrue answer ↔ IsProved one) records.now v.items) }
+// The number of the first certificate that doesn't prove, of those that begin at these offsets,
+// judged by as many threads as there are processors.
+fn first_failure<R: Threads + Sync>(rt: &R, octets: &[u8], offsets: &[usize]) -> Option<usize>
+    requires few { length offsets.now < 2 ^ 64 }
+    requires begin { All (BeginsCert octets.now) offsets.now }
+    ensures { MatchOption result (All (ProvesAt octets.now) offsets.now) (IsFirstFailure octets.now offsets.now) }
 {
-    records
-        .par_iter()
-        .map(
-            |record: &PriceRecord| -> bool
-                requires { IsRecord record.now }
-                ensures { IsTrue result ↔ IsProved record.now }
-            { proves(record) },
-        )
-        .collect(rt, alloc)
-}
-
-// How many certificates there are, if all prove by these answers; else the first that doesn't.
-fn count_proved(records: &[PriceRecord], answers: &[bool]) -> Result<u64, Status>
-    requires { AllZip (λ one answer. IsTrue answer ↔ IsProved one) records.now answers.now }
-    ensures { MatchResult result (RecordsProve records.now) (StopsProving records.now) }
-{
-    let mut index = 0;
-    for (i, record) in records.iter().enumerate() {
-        match record {
-            PriceRecord::Edition { .. } => {}
-            PriceRecord::Cert { at, .. } => {
-                if !answers[i] {
-                    return Err(Status::NotProved { index, offset: *at });
-                }
-                index += 1;
-            }
-        }
-    }
-    Ok(index)
+    offsets.par_iter().position_first(
+        rt,
+        |at: &usize| -> bool
+            requires { BeginsCert octets.now at.now }
+            ensures { MatchBool result (FailsAt octets.entry.now at.now) (ProvesAt octets.entry.now at.now) }
+        { fails_at(octets, *at) },
+    )
 }

@@ -1,17 +1,30 @@
-use Rattle.std.proofs.Common.{rules, ◌≡◌, ℕ, List, sym, subst, Result, Err}
-use Rattle.std.specs.Prelude.{MatchResult}
-use Rattle.price_form.specs.declared.certs.PriceRecord.{PriceRecord}
+use Rattle.std.proofs.Common.{rules, ◌≡◌, ◌∙◌, ℕ, List, All, length, ap, sym, subst, Result, Err, arith}
+use Rattle.std.proofs.lemmas.List.{get_or_default}
 use Rattle.tracker_session.specs.declared.status.Status.{Status}
-use Rattle.tracker_session.specs.CheckRuns.{Judged, RecordsProve, StopsProving}
-use Rattle.tracker_session.proofs.Provings.{proving_judged, taking_judged}
+use Rattle.tracker_session.specs.Checking.{AllProve}
+use Rattle.tracker_session.specs.CheckRuns.{IsFirstFailure, Judged, ProvesAt}
+use Rattle.tracker_session.proofs.Provings.{all_prove, first_fails, taking_judged}
 use Rattle.tracker_session.proofs.checking.judge_prices.Goals as goal
 
-pub returns-in_err-records : goal.returns-in_err-records
-returns-in_err-records g c =
-    let is : c.from_residual.result ≡ Err c.in_err-records.field-0.0 = search rules in
-    subst (λ (r : Result ℕ Status). Judged c.args.octets.now r) (sym is) (taking_judged c.args.octets.now c.in_err-records.field-0.0 c.in_err-records.ensures.stops)
+pub returns-in_err-offsets : goal.returns-in_err-offsets
+returns-in_err-offsets g c =
+    let is : c.from_residual.result ≡ Err c.in_err-offsets.field-0.0 = search rules in
+    subst (λ (r : Result ℕ Status). Judged c.args.octets.now r) (sym is) (taking_judged c.args.octets.now c.in_err-offsets.field-0.0 c.in_err-offsets.ensures.stops)
+
+pub returns-in-None : goal.returns-in-None
+returns-in-None g c =
+    let octets = c.args.octets.now in
+    let found = c.in_ok-offsets.ensures in
+    let prove = subst (λ (o : List ℕ). All (ProvesAt octets) o) c.deref.ensures.value c.in-None.ensures in
+    let many = ap (λ (o : List ℕ). length o) c.deref.ensures.value in
+    let count : length c.in_ok-offsets.offsets.items ≡ c.len-count.result = omega (arith, many, c.deref.ensures.len, c.len-count.ensures) in
+    subst (λ (n : ℕ). AllProve octets n) count (all_prove octets c.in_ok-offsets.offsets.items found.within found.file prove)
 
 pub returns : goal.returns
 returns g c =
-    let proved = subst (λ (rs : List PriceRecord). MatchResult c.count_proved.result (RecordsProve rs) (StopsProving rs)) c.deref-2.ensures.value c.count_proved.ensures in
-    proving_judged c.args.octets.now c.in_ok-records.records.items c.count_proved.result c.in_ok-records.ensures.file proved
+    let octets = c.args.octets.now in
+    let offsets = c.in_ok-offsets.offsets.items in
+    let found = c.in_ok-offsets.ensures in
+    let first = subst (λ (o : List ℕ). IsFirstFailure octets o c.in-Some.i) c.deref.ensures.value c.in-Some.ensures in
+    let at = get_or_default offsets c.in-Some.i 0 c.index.result.now first.inside ∙ sym c.index.ensures in
+    first_fails octets offsets c.in-Some.i c.index.result.now found.within found.file first at

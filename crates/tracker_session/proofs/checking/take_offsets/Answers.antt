@@ -1,7 +1,7 @@
 use Rattle.std.proofs.Common.{◌<◌, sym, length, arith}
 use Rattle.std.proofs.lemmas.List.{length-take-le}
 use Rattle.io_traits.specs.Places.{place_limit}
-use Rattle.tracker_session.proofs.checking.take_records.Goals as goal
+use Rattle.tracker_session.proofs.checking.take_offsets.Goals as goal
 
 pub slice_bounds-prefix_fault-end : goal.slice_bounds-prefix_fault-end
 slice_bounds-prefix_fault-end c =
