@@ -3,7 +3,7 @@ use Rattle.std.specs.Prelude.{ℕ, ◌+◌, ◌*◌, List, [], ◌∷◌, map, p
 use Rattle.std.specs.List.{range_with_len}
 use Rattle.rand_pcg.specs.Lcg.{Lcg}
 use Rattle.scene_gen.specs.declared.fleet.Aircraft.{Aircraft}
-use Rattle.scene_gen.specs.Draws.{after, drawn, generator_of}
+use Rattle.scene_gen.specs.Draws.{after, drawn}
 
 -- An aircraft by nine words: where it is at the start, within 150 km of the corner on each axis, in 1/64 m; its velocity, at most 200 m/s on each axis, in 1/1024 m/s; its code; its level from FL 50 on, in 1/4 FL; and for each radar when the antenna first points at it. Aircraft number i has the address i + 1.
 unfoldable pub aircraft_of : Lcg → ℕ → Aircraft
@@ -19,5 +19,5 @@ aircraft_of g number = record {
 }
 
 -- so many aircraft, each by the nine words after those of the aircraft before it
-unfoldable pub fleet : ℕ → ℕ → List Aircraft
-fleet seed count = map (λ i. aircraft_of (after (9 * i) (generator_of seed)) i) (range_with_len 0 count)
+unfoldable pub fleet_from : Lcg → ℕ → List Aircraft
+fleet_from g count = map (λ i. aircraft_of (after (9 * i) g) i) (range_with_len 0 count)

@@ -8,7 +8,7 @@ use Rattle.scene_gen.specs.declared.fleet.Aircraft.{Aircraft}
 use Rattle.scene_gen.specs.Datagrams.{north_marker, plot, start}
 use Rattle.scene_gen.specs.Delays.{Coming, Plot, delayed}
 use Rattle.scene_gen.specs.Draws.{after, generator_of}
-use Rattle.scene_gen.specs.Fleets.{fleet}
+use Rattle.scene_gen.specs.Fleets.{fleet_from}
 use Rattle.scene_gen.specs.Radars.{radars}
 use Rattle.scene_gen.specs.Sightings.{sees}
 
@@ -26,7 +26,7 @@ plots aircraft seconds = flat_map (λ time. map (λ item. record { seen = time; 
 
 -- the same with their delays, which are drawn after all aircraft are: nine words each
 abbrev pub coming : ℕ → ℕ → ℕ → ℕ → List Coming
-coming seed aircraft seconds late = delayed late (after (9 * aircraft) (generator_of seed)) (plots (fleet seed aircraft) seconds)
+coming seed aircraft seconds late = delayed late (after (9 * aircraft) (generator_of seed)) (plots (fleet_from (generator_of seed) aircraft) seconds)
 
 -- the north markers of a time: a period after the last one, of each radar
 abbrev pub north_markers : ℕ → ℕ → List Item

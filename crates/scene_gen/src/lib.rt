@@ -2,9 +2,17 @@
 //! them.
 #![tactic(auto)]
 
+mod bearings;
+mod datagrams;
+mod delays;
+mod draws;
 mod fleet;
 mod radars;
 mod scenes;
+mod sightings;
+mod sweeps;
+#[cfg(test)]
+mod tests;
 
 pub use radars::{RADARS, SceneRadar};
 pub use scenes::scene;
