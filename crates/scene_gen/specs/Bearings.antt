@@ -20,7 +20,7 @@ abbrev pub direction : ℕ → ℤ × ℤ
 direction angle = rotated angle (pos (2 ^ 20))
 
 -- the angle so far, with k binary digits still to find: each is set where the point lies on from there
-abbrev pub bearing_from : ℕ → ℕ → ℤ → ℤ → ℕ
+unfoldable pub bearing_from : ℕ → ℕ → ℤ → ℤ → ℕ
 bearing_from zero angle x y = angle
 bearing_from (suc k) angle x y = bearing_from k (if lies_on (direction (angle + 2 ^ k)) x y then angle + 2 ^ k else angle) x y
 

@@ -6,3 +6,4 @@ pub mod Sightings
 pub mod Datagrams
 pub mod Delays
 pub mod Scenes
+pub mod Answers

@@ -1,10 +1,11 @@
 // What a radar measures of an aircraft.
-ghost use Rattle.std.specs.Prelude.{◌≡◌, ◌<◌, ◌≤◌, ◌^◌, map, unsigned_abs, option_map};
+ghost use Rattle.std.specs.Prelude.{◌≡◌, ◌≤◌, ◌^◌, map, unsigned_abs, option_map};
 ghost use Rattle.std.specs.List.{range_with_len};
 ghost use Rattle.scene_gen.specs.Bearings.{direction};
-ghost use Rattle.scene_gen.specs.Sightings.{coordinate, height, measured, range, sighting};
+ghost use Rattle.scene_gen.specs.Answers.{polar_of};
+ghost use Rattle.scene_gen.specs.Sightings.{coordinate, height, range, sighting};
 
-use crate::bearings::bearing;
+use crate::bearings::{Point, bearing};
 use crate::fleet::Aircraft;
 use crate::radars::SceneRadar;
 use trk_base::{isqrt, round_div};
@@ -36,12 +37,13 @@ fn height(level: u16) -> u64
 }
 
 // The slant range in 1/256 NM.
-fn range(x: i64, y: i64, level: u16) -> u64
-    requires x { unsigned_abs x ≤ 2 ^ 54 }
-    requires y { unsigned_abs y ≤ 2 ^ 54 }
-    ensures value { result ≡ range x y level }
+fn range(point: Point, level: u16) -> u64
+    requires x { unsigned_abs point.0 ≤ 2 ^ 54 }
+    requires y { unsigned_abs point.1 ≤ 2 ^ 54 }
+    ensures value { result ≡ range point.0 point.1 level }
 {
-    let (x, y) = (u128::from(x.unsigned_abs()), u128::from(y.unsigned_abs()));
+    let x = u128::from(point.0.unsigned_abs());
+    let y = u128::from(point.1.unsigned_abs());
     let flat = u128::from(isqrt(x * x + y * y));
     let high = u128::from(height(level));
     let slant = isqrt(flat * flat + high * high);
@@ -51,22 +53,24 @@ fn range(x: i64, y: i64, level: u16) -> u64
 /// What the radar measures of the aircraft at a time in 1/128 s since the start, with the
 /// directions of all angles.
 pub(crate) fn sighting(
-    directions: &[(i64, i64)],
+    directions: &[Point],
     radar: &SceneRadar,
     aircraft: &Aircraft,
     time: u32,
 ) -> Option<Polar>
     requires { directions.now ≡ map direction (range_with_len 0 65536) }
-    ensures { option_map (λ p. (p.rho, p.theta)) result ≡ sighting radar.now time aircraft.now }
+    ensures { option_map polar_of result ≡ sighting radar.now time aircraft.now }
 {
-    let x = coordinate(aircraft.x, aircraft.vx, radar.x, time);
-    let y = coordinate(aircraft.y, aircraft.vy, radar.y, time);
-    let rho = range(x, y, aircraft.level);
+    let point = (
+        coordinate(aircraft.x, aircraft.vx, radar.x, time),
+        coordinate(aircraft.y, aircraft.vy, radar.y, time),
+    );
+    let rho = range(point, aircraft.level);
     if rho > 0xFFFF {
         return None;
     }
     Some(Polar {
         rho: rho as u16,
-        theta: bearing(directions, x, y),
+        theta: bearing(directions, point),
     })
 }

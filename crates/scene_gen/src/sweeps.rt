@@ -1,4 +1,5 @@
 // What the radars see, turn by turn.
+use crate::bearings::Point;
 use crate::datagrams::{PlotOctets, plot_octets};
 use crate::fleet::Aircraft;
 use crate::radars::{RADARS, SceneRadar};
@@ -30,7 +31,7 @@ impl Sweep {
     // Puts the plots of a time behind those that are there.
     fn look(
         &self,
-        directions: &[(i64, i64)],
+        directions: &[Point],
         time: u32,
         plots: &mut Vec<PlotOctets>,
     ) -> Result<(), NoMemory> {
@@ -56,7 +57,7 @@ pub(crate) fn sweeps_of(alloc: Global, fleet: &[Aircraft]) -> Result<Vec<Sweep>,
 /// They take the place of those that were there.
 pub(crate) fn look_at(
     sweeps: &[Sweep],
-    directions: &[(i64, i64)],
+    directions: &[Point],
     time: u32,
     plots: &mut Vec<PlotOctets>,
 ) -> Result<(), NoMemory> {
