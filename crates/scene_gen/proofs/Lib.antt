@@ -1,3 +1,4 @@
 pub mod Drawing
 pub mod Wide
 pub mod Digits
+pub mod Ranges
