@@ -3,6 +3,7 @@
 #![tactic(auto)]
 
 mod bearings;
+mod buckets;
 mod datagrams;
 mod delays;
 mod draws;
