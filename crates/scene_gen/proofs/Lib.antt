@@ -3,3 +3,7 @@ pub mod Wide
 pub mod Digits
 pub mod Ranges
 pub mod Bucketing
+pub mod Phases
+pub mod Seeing
+pub mod Coming
+pub mod Delaying

@@ -18,16 +18,16 @@ pub record Plot : Type 0 where
   pub item : Item
 
 -- a plot, and the time at which it comes
-pub record Coming : Type 0 where
+pub record Sent : Type 0 where
   pub time : ℕ
   pub item : Item
 
 -- plots, delayed one after the other
-abbrev pub delayed : ℕ → Lcg → List Plot → List Coming
+unfoldable pub delayed : ℕ → Lcg → List Plot → List Sent
 delayed late g [] = []
 delayed late g (p ∷ ps) = record { time = p.seen + delay late g; item = p.item } ∷ delayed late (after_delay late g) ps
 
 -- the generator after the delays of plots
-abbrev pub after_delays : ℕ → Lcg → List Plot → Lcg
+unfoldable pub after_delays : ℕ → Lcg → List Plot → Lcg
 after_delays late g [] = g
 after_delays late g (p ∷ ps) = after_delays late (after_delay late g) ps

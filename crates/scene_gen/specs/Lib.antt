@@ -7,3 +7,5 @@ pub mod Datagrams
 pub mod Delays
 pub mod Scenes
 pub mod Answers
+pub mod Sweeps
+pub mod OnWay

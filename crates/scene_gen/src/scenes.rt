@@ -4,7 +4,7 @@ ghost use Rattle.scene_gen.specs.Scenes.{scene};
 
 use crate::bearings::directions;
 use crate::datagrams::{START, north_octets};
-use crate::delays::Coming;
+use crate::delays::{none_on_way, send, take_at};
 use crate::draws::generator_of;
 use crate::fleet::next_fleet;
 use crate::radars::RADARS;
@@ -61,7 +61,7 @@ pub fn scene(
     let fleet = next_fleet(alloc, aircraft, &mut generator)?;
     let sweeps = sweeps_of(alloc, &fleet)?;
     let directions = directions(alloc)?;
-    let mut coming = Coming::new(alloc)?;
+    let mut on_way = none_on_way(alloc)?;
     let mut plots = Vec::new(alloc);
     let mut octets = Vec::with_capacity(alloc, room(aircraft, seconds))?;
     octets.extend_from_slice(&write_start(START))?;
@@ -69,10 +69,10 @@ pub fn scene(
     for time in 0..=end + 10 * SECOND {
         if time < end {
             look_at(&sweeps, &directions, time, &mut plots)?;
-            coming.send(&plots, time, late, &mut generator)?;
+            send(&plots, time, late, &mut generator, &mut on_way)?;
             put_north_markers(time, &mut octets)?;
         }
-        coming.take_at(time, &mut octets)?;
+        take_at(time, &mut on_way, &mut octets)?;
         put_tick(alloc, time, &mut octets)?;
     }
     Ok(octets)
