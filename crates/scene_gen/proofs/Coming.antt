@@ -1,7 +1,7 @@
 -- Plots on their way: one more is sent, and those of a time come.
 use Rattle.std.proofs.Common.{◌≡◌, ◌∙◌, ap, sym, refl, inl, inr, ℕ, ◌+◌, ◌%◌, ◌<◌, ◌≤◌, ◌≢◌, List, [], ◌∷◌, ◌++◌, length, map, get_or, set, replicate, Bool, true, false, cond, eqb, arith}
 use Rattle.std.specs.Prelude.{filter}
-use Rattle.std.specs.List.{All, AllByRecursion}
+use Rattle.std.specs.List.{All, AllByRecursion, flat_map}
 use Rattle.std.proofs.lemmas.Bool.{cases_eq, eq-eqb, ne_eqb}
 use Rattle.std.proofs.lemmas.Nat.{mod_below}
 use Rattle.std.proofs.lemmas.List.{append-nil, get_or-replicate, get_or-set_other, get_or-set_same, length-replicate, length-set, map-append}
@@ -40,10 +40,12 @@ pub none_come : (plots : List Sent) (t : ℕ) → All (λ p. p.time < t) plots �
 none_come plots t all = none_by_recursion plots t (recursion_from_All (λ (p : Sent). p.time < t) plots all)
 
 pub none_on_way : {b : List (List (List ℕ))} → b ≡ replicate 1088 [] → AreOnWay [] 0 b
-none_on_way {b} made = record {
+none_on_way {b} made =
+  let empty : List (List ℕ) = [] in
+  record {
   within = All-nil (λ (p : Sent). p.time < 0 + 1088);
-  count = ap length made ∙ length-replicate 1088 [];
-  each = λ t from before. ap (λ (l : List (List (List ℕ))). get_or l (t % 1088) []) made ∙ get_or-replicate 1088 (t % 1088) [] [] (mod_below t 1088 (omega arith));
+  count = ap length made ∙ length-replicate 1088 empty;
+  each = λ t from before. ap (λ (l : List (List (List ℕ))). get_or l (t % 1088) []) made ∙ get_or-replicate 1088 (t % 1088) empty empty (mod_below t 1088 (omega arith));
 }
 
 pub sent_one : (plots : List Sent) (time : ℕ) (p : Sent) {b new : List (List (List ℕ))} → AreOnWay plots time b → time ≤ p.time → p.time < time + 1088 → new ≡ set b (p.time % 1088) (get_or b (p.time % 1088) [] ++ item_octets p.item ∷ []) → AreOnWay (plots ++ p ∷ []) time new
@@ -88,3 +90,8 @@ taken plots time {b} {new} inv clear =
                 ∙ inv.each t (omega (arith, a)) (omega (arith, z, other))
           ];
     }
+
+-- the octets of items, one after the other
+pub joined : (items : List Item) → flat_map (λ (octets : List ℕ). octets) (map item_octets items) ≡ flat_map item_octets items
+joined [] = refl
+joined (item ∷ items) = ap (λ (l : List ℕ). item_octets item ++ l) (joined items)

@@ -1,12 +1,15 @@
 -- Plots that are delayed one after the other.
-use Rattle.std.proofs.Common.{◌≡◌, ◌∙◌, ap, sym, subst, refl, ℕ, ◌+◌, ◌%◌, ◌<◌, ◌≤◌, List, [], ◌∷◌, ◌++◌, length, map, take, get_or, set}
+use Rattle.std.proofs.Common.{◌≡◌, ◌∙◌, ap, sym, subst, refl, ℕ, ◌+◌, ◌%◌, ◌<◌, ◌≤◌, List, [], ◌∷◌, ◌++◌, length, map, take, get_or, set, true, false, cond, ltb, arith}
+use Rattle.std.proofs.lemmas.Bool.{le-ltb, lt-ltb}
 use Rattle.std.proofs.lemmas.List.{append_assoc, map-append, take_more}
 use Rattle.rand_pcg.specs.Lcg.{Lcg}
 use Rattle.recording.specs.Items.{Item, item_octets, tick}
 use Rattle.scene_gen.specs.Delays.{Plot, Sent, after_delay, after_delays, delay, delayed}
 use Rattle.scene_gen.specs.OnWay.{AreOnWay}
 use Rattle.scene_gen.specs.Scenes.{plots_of}
+use Rattle.scene_gen.specs.Draws.{after, drawn}
 use Rattle.scene_gen.proofs.Coming.{sent_one}
+use Rattle.scene_gen.proofs.Drawing.{one_more}
 
 pub delayed-append : (late : ℕ) (g : Lcg) (ps qs : List Plot) → delayed late g (ps ++ qs) ≡ delayed late g ps ++ delayed late (after_delays late g ps) qs
 unfolding delayed after_delays
@@ -52,3 +55,29 @@ sent_more late time i g before items comes o {h} {b} {new} within is drawn at fr
       ∙ sym (append_assoc before (delayed late g first) (s ∷ [])) in
     let put : new ≡ set b (comes % 1088) (get_or b (comes % 1088) [] ++ item_octets (get_or items i none) ∷ []) = push ∙ ap (λ (x : List ℕ). set b (comes % 1088) (get_or b (comes % 1088) [] ++ x ∷ [])) is in
     subst (λ (l : List Sent). AreOnWay l time new) (sym all) (sent_one (before ++ delayed late g first) time s inv from to put)
+
+-- ---- one delay
+
+pub late_delay : (late : ℕ) (g : Lcg) {d n more : ℕ} {h : Lcg} → d ≡ drawn 100 g → n ≡ late → d < n → h ≡ after 1 g → more ≡ drawn 1024 h → 64 + more ≡ delay late g
+unfolding delay
+late_delay late g {d} {n} {more} {h} drawn_is late_is below first second =
+    let is : ltb (drawn 100 g) late ≡ true = lt-ltb (drawn 100 g) late (omega (arith, drawn_is, late_is)) in
+    ap (λ (k : ℕ). 64 + k) (second ∙ ap (drawn 1024) first) ∙ ap (λ t. cond t (64 + drawn 1024 (after 1 g)) 64) (sym is)
+
+pub late_after : (late : ℕ) (g : Lcg) {d n : ℕ} {h new : Lcg} → d ≡ drawn 100 g → n ≡ late → d < n → h ≡ after 1 g → new ≡ after 1 h → new ≡ after_delay late g
+unfolding after_delay
+late_after late g {d} {n} {h} {new} drawn_is late_is below first second =
+    let is : ltb (drawn 100 g) late ≡ true = lt-ltb (drawn 100 g) late (omega (arith, drawn_is, late_is)) in
+    one_more g 1 first second ∙ ap (λ t. cond t (after 2 g) (after 1 g)) (sym is)
+
+pub soon_delay : (late : ℕ) (g : Lcg) {d n : ℕ} → d ≡ drawn 100 g → n ≡ late → n ≤ d → 64 ≡ delay late g
+unfolding delay
+soon_delay late g {d} {n} drawn_is late_is above =
+    let is : ltb (drawn 100 g) late ≡ false = le-ltb (drawn 100 g) late (omega (arith, drawn_is, late_is)) in
+    ap (λ t. cond t (64 + drawn 1024 (after 1 g)) 64) (sym is)
+
+pub soon_after : (late : ℕ) (g : Lcg) {d n : ℕ} {h : Lcg} → d ≡ drawn 100 g → n ≡ late → n ≤ d → h ≡ after 1 g → h ≡ after_delay late g
+unfolding after_delay
+soon_after late g {d} {n} {h} drawn_is late_is above first =
+    let is : ltb (drawn 100 g) late ≡ false = le-ltb (drawn 100 g) late (omega (arith, drawn_is, late_is)) in
+    first ∙ ap (λ t. cond t (after 2 g) (after 1 g)) (sym is)

@@ -9,3 +9,4 @@ pub mod Scenes
 pub mod Answers
 pub mod Sweeps
 pub mod OnWay
+pub mod Skies

@@ -11,6 +11,7 @@ mod fleet;
 mod radars;
 mod scenes;
 mod sightings;
+mod sky;
 mod sweeps;
 #[cfg(test)]
 mod tests;

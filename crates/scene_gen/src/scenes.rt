@@ -1,23 +1,31 @@
 // A scene, from its seed to its recording.
-ghost use Rattle.std.specs.Prelude.{◌≡◌, IfOk};
-ghost use Rattle.scene_gen.specs.Scenes.{scene};
+ghost use Rattle.std.specs.Prelude.{◌≡◌, ◌≤◌, ◌++◌, ◌^◌, IfOk, OnOk};
+ghost use Rattle.std.specs.List.{flat_map};
+ghost use Rattle.recording.specs.Items.{item_octets};
+ghost use Rattle.scene_gen.specs.Scenes.{north_markers, scene, tick_at};
 
-use crate::bearings::directions;
 use crate::datagrams::{START, north_octets};
-use crate::delays::{none_on_way, send, take_at};
 use crate::draws::generator_of;
 use crate::fleet::next_fleet;
 use crate::radars::RADARS;
-use crate::sweeps::{look_at, sweeps_of};
+use crate::sky::Sky;
 use recording::{Item, write_item, write_start};
 use std::alloc::Global;
 use trk_base::NoMemory;
 
-// Units of time, of 1/128 s, in a second.
-const SECOND: u32 = 128;
+/// Units of time, of 1/128 s, in a second.
+pub(crate) const SECOND: u32 = 128;
+
+// How many seconds a scene goes on when no more plots are seen, so that all have come.
+const LAST_SECONDS: u32 = 10;
 
 // Puts the north markers of a time behind the octets.
-fn put_north_markers(time: u32, octets: &mut Vec<u8>) -> Result<(), NoMemory> {
+fn put_north_markers(seconds: u16, time: u32, octets: &mut Vec<u8>) -> Result<(), NoMemory>
+    ensures { OnOk result (octets.new.items ≡ octets.old.items ++ flat_map item_octets (north_markers seconds time)) }
+{
+    if time >= SECOND * u32::from(seconds) {
+        return Ok(());
+    }
     for radar in &RADARS {
         if time % radar.period == 0 {
             octets.extend_from_slice(&north_octets(radar, time))?;
@@ -27,7 +35,9 @@ fn put_north_markers(time: u32, octets: &mut Vec<u8>) -> Result<(), NoMemory> {
 }
 
 // Puts the tick of a time behind the octets, where there is one.
-fn put_tick(alloc: Global, time: u32, octets: &mut Vec<u8>) -> Result<(), NoMemory> {
+fn put_tick(alloc: Global, time: u32, octets: &mut Vec<u8>) -> Result<(), NoMemory>
+    ensures { OnOk result (octets.new.items ≡ octets.old.items ++ flat_map item_octets (tick_at time)) }
+{
     if time % SECOND == 0 && time > 0 {
         let tick = write_item(alloc, &Item::Tick(START + u64::from(time)))?;
         octets.extend_from_slice(&tick)?;
@@ -35,10 +45,10 @@ fn put_tick(alloc: Global, time: u32, octets: &mut Vec<u8>) -> Result<(), NoMemo
     Ok(())
 }
 
-// The most octets that a scene has: all plots are there.
+// The octets of a scene whose plots are all there.
 fn room(aircraft: u16, seconds: u16) -> usize {
-    let turns = |period: usize| usize::from(seconds) * 128 / period + 1;
-    let turns = turns(512) + turns(640) + turns(1_280);
+    let time = 128 * usize::from(seconds);
+    let turns = time / 512 + time / 640 + time / 1_280 + 3;
     9 + turns * (26 * usize::from(aircraft) + 14) + 6 * (usize::from(seconds) + 10)
 }
 
@@ -59,20 +69,13 @@ pub fn scene(
 {
     let mut generator = generator_of(seed);
     let fleet = next_fleet(alloc, aircraft, &mut generator)?;
-    let sweeps = sweeps_of(alloc, &fleet)?;
-    let directions = directions(alloc)?;
-    let mut on_way = none_on_way(alloc)?;
-    let mut plots = Vec::new(alloc);
+    let mut sky = Sky::over(alloc, &fleet, generator, seconds, late)?;
     let mut octets = Vec::with_capacity(alloc, room(aircraft, seconds))?;
     octets.extend_from_slice(&write_start(START))?;
-    let end = SECOND * u32::from(seconds);
-    for time in 0..=end + 10 * SECOND {
-        if time < end {
-            look_at(&sweeps, &directions, time, &mut plots)?;
-            send(&plots, time, late, &mut generator, &mut on_way)?;
-            put_north_markers(time, &mut octets)?;
-        }
-        take_at(time, &mut on_way, &mut octets)?;
+    for time in 0..SECOND * (u32::from(seconds) + LAST_SECONDS) + 1 {
+        sky.see(time)?;
+        put_north_markers(seconds, time, &mut octets)?;
+        sky.put_plots(time, &mut octets)?;
         put_tick(alloc, time, &mut octets)?;
     }
     Ok(octets)
