@@ -11,10 +11,10 @@ use Rattle.scene_gen.specs.Delays.{Sent}
 use Rattle.scene_gen.specs.OnWay.{AreOnWay}
 use Rattle.scene_gen.specs.Scenes.{come_at}
 
-abbrev comes : ℕ → Sent → Bool
+abbrev pub comes : ℕ → Sent → Bool
 comes t p = eqb p.time t
 
-abbrev item_of : Sent → Item
+abbrev pub item_of : Sent → Item
 item_of p = p.item
 
 -- two times of a window share no place
@@ -41,12 +41,12 @@ none_come plots t all = none_by_recursion plots t (recursion_from_All (λ (p : S
 
 pub none_on_way : {b : List (List (List ℕ))} → b ≡ replicate 1088 [] → AreOnWay [] 0 b
 none_on_way {b} made =
-  let empty : List (List ℕ) = [] in
-  record {
-  within = All-nil (λ (p : Sent). p.time < 0 + 1088);
-  count = ap length made ∙ length-replicate 1088 empty;
-  each = λ t from before. ap (λ (l : List (List (List ℕ))). get_or l (t % 1088) []) made ∙ get_or-replicate 1088 (t % 1088) empty empty (mod_below t 1088 (omega arith));
-}
+    let empty : List (List ℕ) = [] in
+    record {
+      within = All-nil (λ (p : Sent). p.time < 0 + 1088);
+      count = ap length made ∙ length-replicate 1088 empty;
+      each = λ t from before. ap (λ (l : List (List (List ℕ))). get_or l (t % 1088) []) made ∙ get_or-replicate 1088 (t % 1088) empty empty (mod_below t 1088 (omega arith));
+    }
 
 pub sent_one : (plots : List Sent) (time : ℕ) (p : Sent) {b new : List (List (List ℕ))} → AreOnWay plots time b → time ≤ p.time → p.time < time + 1088 → new ≡ set b (p.time % 1088) (get_or b (p.time % 1088) [] ++ item_octets p.item ∷ []) → AreOnWay (plots ++ p ∷ []) time new
 sent_one plots time p {b} {new} inv from before push =

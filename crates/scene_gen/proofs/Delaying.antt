@@ -49,10 +49,10 @@ sent_more late time i g before items comes o {h} {b} {new} within is drawn at fr
     let p : Plot = record { seen = time; item = get_or items i none } in
     let s : Sent = record { time = comes; item = get_or items i none } in
     let one : delayed late (after_delays late g first) (p ∷ []) ≡ s ∷ [] =
-      delayed_one late (after_delays late g first) p ∙ ap (λ (n : ℕ). record { time = n; item = get_or items i none } ∷ []) (ap (λ (x : Lcg). time + delay late x) (sym drawn) ∙ sym at) in
+    delayed_one late (after_delays late g first) p ∙ ap (λ (n : ℕ). record { time = n; item = get_or items i none } ∷ []) (ap (λ (x : Lcg). time + delay late x) (sym drawn) ∙ sym at) in
     let all : before ++ delayed late g (plots_of time (take (i + 1) items)) ≡ (before ++ delayed late g first) ++ s ∷ [] =
-      ap (λ (l : List Plot). before ++ delayed late g l) (plots_more time i items within) ∙ ap (λ (l : List Sent). before ++ l) (delayed-append late g first (p ∷ []) ∙ ap (λ (l : List Sent). delayed late g first ++ l) one)
-      ∙ sym (append_assoc before (delayed late g first) (s ∷ [])) in
+    ap (λ (l : List Plot). before ++ delayed late g l) (plots_more time i items within) ∙ ap (λ (l : List Sent). before ++ l) (delayed-append late g first (p ∷ []) ∙ ap (λ (l : List Sent). delayed late g first ++ l) one)
+    ∙ sym (append_assoc before (delayed late g first) (s ∷ [])) in
     let put : new ≡ set b (comes % 1088) (get_or b (comes % 1088) [] ++ item_octets (get_or items i none) ∷ []) = push ∙ ap (λ (x : List ℕ). set b (comes % 1088) (get_or b (comes % 1088) [] ++ x ∷ [])) is in
     subst (λ (l : List Sent). AreOnWay l time new) (sym all) (sent_one (before ++ delayed late g first) time s inv from to put)
 

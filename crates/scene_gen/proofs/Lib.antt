@@ -7,3 +7,9 @@ pub mod Phases
 pub mod Seeing
 pub mod Coming
 pub mod Delaying
+pub mod Moments
+pub mod Sweeping
+pub mod Marking
+pub mod Runs
+pub mod FleetPhases
+pub mod Playing

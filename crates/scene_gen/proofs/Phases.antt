@@ -28,7 +28,7 @@ filled_more r aircraft i a {b} {new} inv within read fits push =
       each = λ phase lt.
           let first : List Aircraft = with_phase r (take i aircraft) phase in
           let more : with_phase r (take (i + 1) aircraft) phase ≡ first ++ cond (eqb phase k) (a ∷ []) [] =
-            filter_more (λ (x : Aircraft). eqb phase (slice_index x.phases r.feed)) aircraft i a within ∙ (λ j. first ++ cond (eqb phase (slice_index (sym read j).phases r.feed)) (sym read j ∷ []) []) in
+          filter_more (λ (x : Aircraft). eqb phase (slice_index x.phases r.feed)) aircraft i a within ∙ (λ j. first ++ cond (eqb phase (slice_index (sym read j).phases r.feed)) (sym read j ∷ []) []) in
           elim (cases_eq phase k) [
             | inl same ↦
                 ap (λ (l : List (List Aircraft)). get_or l phase []) push ∙ ap (λ (n : ℕ). get_or (set b k v) n []) same ∙ get_or-set_same b k v [] (omega (arith, inv.count))

@@ -46,6 +46,6 @@ pub swept_more : (time : ℕ) (sweeps : List Sweep) (i : ℕ) (s : Sweep) {now n
 swept_more time sweeps i s {now} {next} within read inv more =
     let first : List Item = flat_map (seen_by time) (take i sweeps) in
     let all : flat_map (seen_by time) (take (i + 1) sweeps) ≡ first ++ seen_by time s =
-      ap (flat_map (seen_by time)) (take_more sweeps i s within) ∙ flat_map-append (seen_by time) (take i sweeps) (get_or sweeps i s ∷ [])
-      ∙ ap (λ (l : List Item). first ++ l) (append-nil (seen_by time (get_or sweeps i s))) ∙ ap (λ (x : Sweep). first ++ seen_by time x) (sym read) in
+    ap (flat_map (seen_by time)) (take_more sweeps i s within) ∙ flat_map-append (seen_by time) (take i sweeps) (get_or sweeps i s ∷ [])
+    ∙ ap (λ (l : List Item). first ++ l) (append-nil (seen_by time (get_or sweeps i s))) ∙ ap (λ (x : Sweep). first ++ seen_by time x) (sym read) in
     more ∙ ap (λ (l : List (List ℕ)). l ++ map item_octets (seen_by time s)) inv ∙ sym (map-append item_octets first (seen_by time s)) ∙ ap (map item_octets) (sym all)

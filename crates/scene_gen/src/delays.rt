@@ -68,11 +68,7 @@ pub(crate) fn send(
 }
 
 /// Takes the plots that come at this time, and puts them behind the octets.
-pub(crate) fn take_at(
-    time: u32,
-    on_way: &mut OnWay,
-    octets: &mut Vec<u8>,
-) -> Result<(), NoMemory>
+pub(crate) fn take_at(time: u32, on_way: &mut OnWay, octets: &mut Vec<u8>) -> Result<(), NoMemory>
     requires count { length on_way.old ≡ 1088 }
     ensures taken { (before : List Sent) → AreOnWay before time on_way.old → OnOk result (octets.new.items ≡ octets.old.items ++ flat_map item_octets (come_at before time)) }
     ensures left { (before : List Sent) → AreOnWay before time on_way.old → OnOk result (AreOnWay before (time + 1) on_way.new) }

@@ -42,7 +42,7 @@ impl Sky {
         seconds: u16,
         late: u8,
     ) -> Result<Sky, NoMemory>
-        requires phases { All (λ r. HavePhases r fleet.now) radars }
+        requires { All (λ r. HavePhases r fleet.now) radars }
         ensures ready { IfOk result IsReady }
         ensures start { IfOk result (IsSky fleet.now generator seconds late 0 0) }
     {
