@@ -2,3 +2,6 @@ pub mod Detected
 pub mod Expiry
 pub mod Told
 pub mod Numbering
+pub mod Leaps
+pub mod FirstFree
+pub mod Turns
