@@ -18,8 +18,8 @@ found held a (suc k) n le lt h e =
     elim (cases_lt a n) [
       | inl below ↦ ap (λ c. cond (not c) (Some a) (find (λ m. not (held m)) (range_with_len (a + 1) k))) (h a (omega arith) below) ∙ found held (a + 1) k n (omega (arith, below)) (omega (arith, lt)) (λ m ge. h m (omega (arith, ge))) e
       | inr ge ↦
-        let same : n ≡ a = omega (arith, ge, le) in
-        ap (λ c. cond (not c) (Some a) (find (λ m. not (held m)) (range_with_len (a + 1) k))) (subst (λ x. held x ≡ false) same e) ∙ ap Some (sym same)
+          let same : n ≡ a = omega (arith, ge, le) in
+          ap (λ c. cond (not c) (Some a) (find (λ m. not (held m)) (range_with_len (a + 1) k))) (subst (λ x. held x ≡ false) same e) ∙ ap Some (sym same)
     ]
 
 none_found : (held : ℕ → Bool) (a k : ℕ) → ((m : ℕ) → a ≤ m → m < a + k → held m ≡ true) → find (λ m. not (held m)) (range_with_len a k) ≡ None
@@ -49,16 +49,16 @@ module _ (numbers : List ℕ) (arrival : ℕ) (n : ℕ) (h : IsFirstFree (is_amo
       let x = arrival % 65535 in
       elim (cases_lt 65535 h.first) [
         | inl far ↦
-          let again = h.again far in
-          let before : n < 1 + x = elim (cases_lt n (1 + x)) [
-            | inl lt ↦ lt
-            | inr ge ↦ absurd (clash (held n) (h.next.over n ge (omega (arith, le, far))) (again.free le))
-          ] in
-          found_after held (range_with_len (1 + x) (65535 - x)) (range_with_len 1 x) (Some n) (none_first held x h.first small h.next far) (found held 1 x n again.above before again.over (again.free le))
+            let again = h.again far in
+            let before : n < 1 + x = elim (cases_lt n (1 + x)) [
+              | inl lt ↦ lt
+              | inr ge ↦ absurd (clash (held n) (h.next.over n ge (omega (arith, le, far))) (again.free le))
+            ] in
+            found_after held (range_with_len (1 + x) (65535 - x)) (range_with_len 1 x) (Some n) (none_first held x h.first small h.next far) (found held 1 x n again.above before again.over (again.free le))
         | inr near ↦
-          let same = h.here near in
-          found_first held (range_with_len (1 + x) (65535 - x)) (range_with_len 1 x) n
-          (found held (1 + x) (65535 - x) n (omega (arith, h.next.above, same)) (omega (arith, le, small)) (λ m ge below. h.next.over m ge (omega (arith, below, same))) (subst (λ m. held m ≡ false) (sym same) (h.next.free near)))
+            let same = h.here near in
+            found_first held (range_with_len (1 + x) (65535 - x)) (range_with_len 1 x) n
+            (found held (1 + x) (65535 - x) n (omega (arith, h.next.above, same)) (omega (arith, le, small)) (λ m ge below. h.next.over m ge (omega (arith, below, same))) (subst (λ m. held m ≡ false) (sym same) (h.next.free near)))
       ]
 
   pub none_is : 65535 < n → first_free numbers arrival ≡ None

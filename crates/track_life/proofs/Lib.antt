@@ -5,3 +5,4 @@ pub mod Numbering
 pub mod Leaps
 pub mod FirstFree
 pub mod Turns
+pub mod Lent

@@ -1,5 +1,6 @@
 // Track numbers are given.
 ghost use Rattle.std.specs.Prelude.{◌≡◌, ◌++◌, ℕ, List, IfOk, OnErr, OnOk};
+ghost use Rattle.std.specs.List.{list_any};
 ghost use Rattle.std.specs.Option.{option_or, option_to_list};
 ghost use Rattle.track_life.specs.Numbers.{with_number, held, is_among, is_waiting, turn, assigned};
 ghost use Rattle.track_life.specs.HeldNumbers.{LeapOver};
@@ -15,7 +16,7 @@ pub(crate) fn give_numbers(alloc: Global, tracks: &mut [Track]) -> Result<(), No
     ensures given { OnOk result (tracks.new ≡ assigned tracks.old) }
     ensures unchanged { OnErr result (tracks.new ≡ tracks.old) }
 {
-    if !tracks.iter().any(|track| is_waiting(track)) {
+    if !some_waits(tracks) {
         return Ok(());
     }
     let mut held = held_by(alloc, tracks)?;
@@ -23,6 +24,13 @@ pub(crate) fn give_numbers(alloc: Global, tracks: &mut [Track]) -> Result<(), No
         take_turn(track, &mut held);
     }
     Ok(())
+}
+
+// Whether a track waits for a number.
+fn some_waits(tracks: &[Track]) -> bool
+    ensures { result ≡ list_any is_waiting tracks.now }
+{
+    tracks.iter().any(is_waiting)
 }
 
 // Whether a track is confirmed and has no number.

@@ -17,8 +17,7 @@ way-preserved c =
       above = omega (arith, c.way.invariant.above);
       below = on;
       over = λ held h.
-          let k = c.way.invariant.over held h in
-          (
+          let k = c.way.invariant.over held h in (
             leap_on held ls i f _ l here k.0 c.from.ensures refl,
             λ m ge below. elim (cases_lt m i) [
               | inl near ↦ k.1 m ge near
@@ -31,11 +30,13 @@ pub returns : goal.returns
 returns c = record {
   leaps = c.way.invariant.leaps;
   next = λ held h.
-      let k = c.way.invariant.over held h in
-      (k.0, record {
-        above = c.way.invariant.above;
-        below = c.way.invariant.below;
-        over = k.1;
-        free = λ le. k.0.stands c.way.place le (omega (arith, c.way-test.false));
-      });
+      let k = c.way.invariant.over held h in (
+        k.0,
+        record {
+          above = c.way.invariant.above;
+          below = c.way.invariant.below;
+          over = k.1;
+          free = λ le. k.0.stands c.way.place le (omega (arith, c.way-test.false));
+        },
+      );
 }
