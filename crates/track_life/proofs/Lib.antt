@@ -6,3 +6,4 @@ pub mod Leaps
 pub mod FirstFree
 pub mod Turns
 pub mod Lent
+pub mod Differing
