@@ -53,6 +53,7 @@ is_turn numbers t = go t.confirmed t.number
     waited : (g : Option ℕ) → first_free numbers t.birth.arrival ≡ g → IsTurn numbers None g
     waited None e = tt
     waited (Some k) e = free_given numbers t.birth.arrival k e
+
     go : (c : Bool) (x : Option ℕ) → IsTurn numbers x (cond (c && is_none x) (first_free numbers t.birth.arrival) None)
     go true None = waited (first_free numbers t.birth.arrival) refl
     go false None = tt
@@ -107,10 +108,13 @@ step numbers hs rest None (Some k) f d s later =
         ]) after.apart,
         after.differ,
       );
-      apart = (inr f.0, weaker _ _ (rest (k ∷ numbers)) (λ m. elim [
-        | inl e ↦ inl e
-        | inr e ↦ inr (or_neither (eqb k m) (is_among numbers m) e).1
-      ]) after.apart);
+      apart = (
+        inr f.0,
+        weaker _ _ (rest (k ∷ numbers)) (λ m. elim [
+          | inl e ↦ inl e
+          | inr e ↦ inr (or_neither (eqb k m) (is_among numbers m) e).1
+        ]) after.apart,
+      );
     }
 step numbers hs rest (Some k) None f d s later =
     let after = later numbers d.1 s.1 in
@@ -122,10 +126,13 @@ step numbers hs rest (Some k) None f d s later =
         ]) after.apart,
         after.differ,
       );
-      apart = (inl (itself k hs), weaker _ _ (rest numbers) (λ m. elim [
-        | inl e ↦ inl (or_else (eqb k m) (is_among hs m) e)
-        | inr e ↦ inr e
-      ]) after.apart);
+      apart = (
+        inl (itself k hs),
+        weaker _ _ (rest numbers) (λ m. elim [
+          | inl e ↦ inl (or_else (eqb k m) (is_among hs m) e)
+          | inr e ↦ inr e
+        ]) after.apart,
+      );
     }
 step numbers hs rest (Some j) (Some k) f d s later = absurd f
 
