@@ -1,11 +1,11 @@
 -- No number is given twice.
-use Rattle.std.proofs.Common.{◌≡◌, ◌∙◌, refl, sym, ap, subst, inl, inr, ℕ, zero, suc, ◌+◌, ◌-◌, ◌%◌, ◌≤◌, ◌<◌, Bool, true, false, cond, List, [], ◌∷◌, ◌++◌, eqb, arith}
-use Rattle.std.specs.Prelude.{⊤, ◌||◌, ◌&&◌, ◌⊎◌, not, Option, Some, None, is_some}
+use Rattle.std.proofs.Common.{◌≡◌, refl, ap, subst, inl, inr, ℕ, zero, suc, ◌+◌, ◌-◌, ◌%◌, ◌≤◌, ◌<◌, Bool, true, false, cond, List, [], ◌∷◌, ◌++◌, eqb, arith}
+use Rattle.std.specs.Prelude.{⊤, ◌||◌, ◌&&◌, ◌⊎◌, not, Option, Some, None}
 use Rattle.std.specs.Option.{option_or, option_to_list, is_none}
-use Rattle.std.specs.List.{AllByRecursion, IsDistinct, cons_option, find, list_any, range_with_len}
+use Rattle.std.specs.List.{AllByRecursion, IsDistinct, cons_option, find, range_with_len}
 use Rattle.std.proofs.lemmas.Bool.{eqb-true, eq-eqb, ne_eqb}
 use Rattle.track_life.specs.Tracks.{TrackState}
-use Rattle.track_life.specs.Numbers.{IsNumber, with_number, held, is_among, tried, first_free, is_waiting, turn, given, assigned}
+use Rattle.track_life.specs.Numbers.{IsNumber, held, is_among, tried, first_free, turn, given, assigned}
 
 -- what is found passes the test, and is one of the list
 found_passes : (p : ℕ → Bool) (Q : ℕ → Type 0) (xs : List ℕ) (k : ℕ) → AllByRecursion Q xs → find p xs ≡ Some k → (p k ≡ true) × Q k

@@ -1,4 +1,4 @@
-use Rattle.std.proofs.Common.{◌≡◌, ◌∙◌, ℕ, ◌++◌, List, ◌∷◌, length, take, ap, sym, subst, arith}
+use Rattle.std.proofs.Common.{◌≡◌, ◌∙◌, ◌∷◌, length, sym, subst, arith}
 use Rattle.track_life.specs.Numbers.{is_among}
 use Rattle.track_life.specs.HeldNumbers.{LeapOver}
 use Rattle.track_life.proofs.Lent.{came_back}
