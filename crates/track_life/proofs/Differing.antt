@@ -24,7 +24,7 @@ all_both : (Q : ℕ → Type 0) (xs ys : List ℕ) → AllByRecursion Q xs → A
 all_both Q [] ys h g = g
 all_both Q (x ∷ xs) ys h g = (h.0, all_both Q xs ys h.1 g)
 
-tried_in : (arrival : ℕ) → AllByRecursion IsNumber (tried arrival)
+pub tried_in : (arrival : ℕ) → AllByRecursion IsNumber (tried arrival)
 unfolding tried
 tried_in arrival =
     let x = arrival % 65535 in
@@ -82,7 +82,7 @@ clash b e d = cc
 itself : (k : ℕ) (ns : List ℕ) → is_among (k ∷ ns) k ≡ true
 itself k ns = ap (λ b. b || is_among ns k) (eq-eqb k k refl)
 
-weaker : (P Q : ℕ → Type 0) (xs : List ℕ) → ((n : ℕ) → P n → Q n) → AllByRecursion P xs → AllByRecursion Q xs
+pub weaker : (P Q : ℕ → Type 0) (xs : List ℕ) → ((n : ℕ) → P n → Q n) → AllByRecursion P xs → AllByRecursion Q xs
 weaker P Q [] f h = tt
 weaker P Q (x ∷ xs) f h = (f x h.0, weaker P Q xs f h.1)
 

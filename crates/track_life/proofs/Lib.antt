@@ -7,3 +7,4 @@ pub mod FirstFree
 pub mod Turns
 pub mod Lent
 pub mod Differing
+pub mod Leaving
