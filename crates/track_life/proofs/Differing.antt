@@ -5,7 +5,7 @@ use Rattle.std.specs.Option.{option_or, option_to_list, is_none}
 use Rattle.std.specs.List.{AllByRecursion, IsDistinct, cons_option, find, range_with_len}
 use Rattle.std.proofs.lemmas.Bool.{eqb-true, eq-eqb, ne_eqb}
 use Rattle.track_life.specs.Tracks.{TrackState}
-use Rattle.track_life.specs.Numbers.{IsNumber, held, is_among, tried, first_free, turn, given, assigned}
+use Rattle.track_life.specs.Numbers.{IsNumber, held, is_among, tried, first_free, new_number, given, assigned}
 
 -- what is found passes the test, and is one of the list
 found_passes : (p : ℕ → Bool) (Q : ℕ → Type 0) (xs : List ℕ) (k : ℕ) → AllByRecursion Q xs → find p xs ≡ Some k → (p k ≡ true) × Q k
@@ -42,19 +42,19 @@ free_given numbers arrival k e =
     free false e = refl
 
 -- who has a number is given none, and what is given is free
-abbrev IsTurn : List ℕ → Option ℕ → Option ℕ → Type 0
-IsTurn numbers x None = ⊤
-IsTurn numbers None (Some k) = (is_among numbers k ≡ false) × IsNumber k
-IsTurn numbers (Some j) (Some k) = ⊥
+abbrev IsGiven : List ℕ → Option ℕ → Option ℕ → Type 0
+IsGiven numbers x None = ⊤
+IsGiven numbers None (Some k) = (is_among numbers k ≡ false) × IsNumber k
+IsGiven numbers (Some j) (Some k) = ⊥
 
-is_turn : (numbers : List ℕ) (t : TrackState) → IsTurn numbers t.number (turn numbers t)
-is_turn numbers t = go t.confirmed t.number
+is_given : (numbers : List ℕ) (t : TrackState) → IsGiven numbers t.number (new_number numbers t)
+is_given numbers t = go t.confirmed t.number
   where
-    waited : (g : Option ℕ) → first_free numbers t.birth.arrival ≡ g → IsTurn numbers None g
+    waited : (g : Option ℕ) → first_free numbers t.birth.arrival ≡ g → IsGiven numbers None g
     waited None e = tt
     waited (Some k) e = free_given numbers t.birth.arrival k e
 
-    go : (c : Bool) (x : Option ℕ) → IsTurn numbers x (cond (c && is_none x) (first_free numbers t.birth.arrival) None)
+    go : (c : Bool) (x : Option ℕ) → IsGiven numbers x (cond (c && is_none x) (first_free numbers t.birth.arrival) None)
     go true None = waited (first_free numbers t.birth.arrival) refl
     go false None = tt
     go true (Some k) = tt
@@ -68,7 +68,7 @@ all_held P (n ∷ numbers) m h e = either (eqb n m) (is_among numbers m) e (λ i
     either true b e f g = f refl
     either false b e f g = g e
 
--- the numbers after the turns: no two are one, and each was held by these tracks or by none
+-- the numbers after numbers were given: no two are one, and each was held by these tracks or by none
 record Apart (numbers hs ms : List ℕ) : Type 0 where
   differ : IsDistinct eqb ms
   apart : AllByRecursion (λ m. (is_among hs m ≡ true) ⊎ (is_among numbers m ≡ false)) ms
@@ -94,7 +94,7 @@ or_neither : (a b : Bool) → (a || b) ≡ false → (a ≡ false) × (b ≡ fal
 or_neither true b e = cc
 or_neither false b e = (refl, e)
 
-step : (numbers hs : List ℕ) (rest : List ℕ → List ℕ) (x g : Option ℕ) → IsTurn numbers x g → IsDistinct eqb (cons_option x hs) → AreHeld numbers (cons_option x hs)
+step : (numbers hs : List ℕ) (rest : List ℕ → List ℕ) (x g : Option ℕ) → IsGiven numbers x g → IsDistinct eqb (cons_option x hs) → AreHeld numbers (cons_option x hs)
     → ((ns : List ℕ) → IsDistinct eqb hs → AreHeld ns hs → Apart ns hs (rest ns)) → Apart numbers (cons_option x hs) (cons_option (option_or x g) (rest (option_to_list g ++ numbers)))
 unfolding IsDistinct
 step numbers hs rest None None f d s later = later numbers d s
@@ -139,7 +139,7 @@ step numbers hs rest (Some j) (Some k) f d s later = absurd f
 apart_given : (numbers : List ℕ) (ts : List TrackState) → IsDistinct eqb (held ts) → AreHeld numbers (held ts) → Apart numbers (held ts) (held (given numbers ts))
 unfolding IsDistinct
 apart_given numbers [] d s = record { differ = tt; apart = tt }
-apart_given numbers (t ∷ ts) d s = step numbers (held ts) (λ ns. held (given ns ts)) t.number (turn numbers t) (is_turn numbers t) d s (λ ns. apart_given ns ts)
+apart_given numbers (t ∷ ts) d s = step numbers (held ts) (λ ns. held (given ns ts)) t.number (new_number numbers t) (is_given numbers t) d s (λ ns. apart_given ns ts)
 
 all_among : (ns : List ℕ) → AreHeld ns ns
 all_among [] = tt
@@ -149,15 +149,15 @@ pub still_differ : (ts : List TrackState) → IsDistinct eqb (held ts) → IsDis
 unfolding assigned
 still_differ ts d = (apart_given (held ts) ts d (all_among (held ts))).differ
 
-turn_in : (numbers : List ℕ) (x g : Option ℕ) (hs ms : List ℕ) → IsTurn numbers x g → AllByRecursion IsNumber (cons_option x hs) → (AllByRecursion IsNumber hs → AllByRecursion IsNumber ms) → AllByRecursion IsNumber (cons_option (option_or x g) ms)
-turn_in numbers None None hs ms f h later = later h
-turn_in numbers None (Some k) hs ms f h later = (f.1, later h)
-turn_in numbers (Some j) None hs ms f h later = (h.0, later h.1)
-turn_in numbers (Some j) (Some k) hs ms f h later = absurd f
+number_in : (numbers : List ℕ) (x g : Option ℕ) (hs ms : List ℕ) → IsGiven numbers x g → AllByRecursion IsNumber (cons_option x hs) → (AllByRecursion IsNumber hs → AllByRecursion IsNumber ms) → AllByRecursion IsNumber (cons_option (option_or x g) ms)
+number_in numbers None None hs ms f h later = later h
+number_in numbers None (Some k) hs ms f h later = (f.1, later h)
+number_in numbers (Some j) None hs ms f h later = (h.0, later h.1)
+number_in numbers (Some j) (Some k) hs ms f h later = absurd f
 
 given_in : (numbers : List ℕ) (ts : List TrackState) → AllByRecursion IsNumber (held ts) → AllByRecursion IsNumber (held (given numbers ts))
 given_in numbers [] h = tt
-given_in numbers (t ∷ ts) h = turn_in numbers t.number (turn numbers t) (held ts) (held (given (option_to_list (turn numbers t) ++ numbers) ts)) (is_turn numbers t) h (given_in (option_to_list (turn numbers t) ++ numbers) ts)
+given_in numbers (t ∷ ts) h = number_in numbers t.number (new_number numbers t) (held ts) (held (given (option_to_list (new_number numbers t) ++ numbers) ts)) (is_given numbers t) h (given_in (option_to_list (new_number numbers t) ++ numbers) ts)
 
 pub still_numbers : (ts : List TrackState) → AllByRecursion IsNumber (held ts) → AllByRecursion IsNumber (held (assigned ts))
 unfolding assigned

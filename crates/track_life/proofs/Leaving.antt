@@ -6,7 +6,7 @@ use Rattle.std.specs.List.{AllByRecursion, cons_option, find, range_with_len}
 use Rattle.std.proofs.lemmas.Bool.{cases_lt, cases_eq}
 use Rattle.track_life.specs.Tracks.{TrackState}
 use Rattle.track_life.proofs.Differing.{tried_in, weaker}
-use Rattle.track_life.specs.Numbers.{IsNumber, with_number, held, is_among, tried, first_free, is_waiting, turn, given, assigned}
+use Rattle.track_life.specs.Numbers.{IsNumber, with_number, held, is_among, tried, first_free, is_waiting, new_number, given, assigned}
 
 not_found : (p : ℕ → Bool) (xs : List ℕ) → find p xs ≡ None → AllByRecursion (λ n. p n ≡ false) xs
 not_found p [] e = tt
@@ -47,8 +47,8 @@ none_free numbers arrival e n is = held_then (is_among numbers n) (in_tried (λ 
     held_then true e = refl
     held_then false e = cc
 
--- a track that still waits after its turn
-still_waits : (numbers : List ℕ) (t : TrackState) → is_waiting (with_number (option_or t.number (turn numbers t)) t) ≡ true → (n : ℕ) → IsNumber n → is_among numbers n ≡ true
+-- a track that still waits after it could be given a number
+still_waits : (numbers : List ℕ) (t : TrackState) → is_waiting (with_number (option_or t.number (new_number numbers t)) t) ≡ true → (n : ℕ) → IsNumber n → is_among numbers n ≡ true
 still_waits numbers t = go t.confirmed t.number (first_free numbers t.birth.arrival) refl
   where
     go : (c : Bool) (x g : Option ℕ) → first_free numbers t.birth.arrival ≡ g → (c && is_none (option_or x (cond (c && is_none x) g None))) ≡ true → (n : ℕ) → IsNumber n → is_among numbers n ≡ true
@@ -57,7 +57,7 @@ still_waits numbers t = go t.confirmed t.number (first_free numbers t.birth.arri
     go true (Some j) g e w = cc
     go false x g e w = cc
 
--- that a number is held by these, or among those after the turns
+-- that a number is held by these, or among those after numbers were given
 abbrev IsHeldSo : List ℕ → List ℕ → ℕ → Type 0
 IsHeldSo numbers ms n = (is_among numbers n ≡ true) ⊎ (is_among ms n ≡ true)
 
@@ -90,7 +90,7 @@ passed_on numbers ms None (Some k) n f (inl e) = elim (or_true (eqb k n) (is_amo
 passed_on numbers ms None (Some k) n f (inr e) = inr (or_right (eqb k n) (is_among ms n) e)
 passed_on numbers ms (Some j) (Some k) n f h = absurd (some_not_none k (f refl))
 
-own_alone : (numbers : List ℕ) (t : TrackState) → is_some t.number ≡ true → turn numbers t ≡ None
+own_alone : (numbers : List ℕ) (t : TrackState) → is_some t.number ≡ true → new_number numbers t ≡ None
 own_alone numbers t = go t.confirmed t.number
   where
     go : (c : Bool) (x : Option ℕ) → is_some x ≡ true → cond (c && is_none x) (first_free numbers t.birth.arrival) None ≡ None
@@ -101,7 +101,7 @@ own_alone numbers t = go t.confirmed t.number
 left_given : (numbers : List ℕ) (ts : List TrackState) → AllByRecursion (IsLeft (IsHeldSo numbers (held (given numbers ts)))) (given numbers ts)
 left_given numbers [] = tt
 left_given numbers (t ∷ ts) =
-    let g = turn numbers t in
+    let g = new_number numbers t in
     let after = given (option_to_list g ++ numbers) ts in (
       (λ w n is. inl (still_waits numbers t w n is)),
       all_weaker _ _ after (λ u h w n is. passed_on numbers (held after) t.number g n (own_alone numbers t) (h w n is)) (left_given (option_to_list g ++ numbers) ts),
@@ -118,7 +118,7 @@ kept_on (Some j) g hs ms n f e = elim (or_true (eqb j n) (is_among hs n) e) [
 
 kept_given : (numbers : List ℕ) (ts : List TrackState) (n : ℕ) → is_among (held ts) n ≡ true → is_among (held (given numbers ts)) n ≡ true
 kept_given numbers [] n e = e
-kept_given numbers (t ∷ ts) n e = kept_on t.number (turn numbers t) (held ts) (held (given (option_to_list (turn numbers t) ++ numbers) ts)) n (kept_given (option_to_list (turn numbers t) ++ numbers) ts n) e
+kept_given numbers (t ∷ ts) n e = kept_on t.number (new_number numbers t) (held ts) (held (given (option_to_list (new_number numbers t) ++ numbers) ts)) n (kept_given (option_to_list (new_number numbers t) ++ numbers) ts n) e
 
 pub left : (ts : List TrackState) → AllByRecursion (λ t. is_waiting t ≡ true → (n : ℕ) → IsNumber n → is_among (held (assigned ts)) n ≡ true) (assigned ts)
 unfolding assigned
@@ -132,8 +132,8 @@ nothing_found : (p : ℕ → Bool) (xs : List ℕ) → AllByRecursion (λ n. p n
 nothing_found p [] h = refl
 nothing_found p (x ∷ xs) h = ap (λ b. cond b (Some x) (find p xs)) h.0 ∙ nothing_found p xs h.1
 
-none_turn : (numbers : List ℕ) (t : TrackState) → IsLeft (λ n. is_among numbers n ≡ true) t → turn numbers t ≡ None
-none_turn numbers t h = go (is_waiting t) (λ w. nothing_found (λ m. not (is_among numbers m)) (tried t.birth.arrival) (weaker IsNumber _ (tried t.birth.arrival) (λ n is. ap not (h w n is)) (tried_in t.birth.arrival)))
+none_new : (numbers : List ℕ) (t : TrackState) → IsLeft (λ n. is_among numbers n ≡ true) t → new_number numbers t ≡ None
+none_new numbers t h = go (is_waiting t) (λ w. nothing_found (λ m. not (is_among numbers m)) (tried t.birth.arrival) (weaker IsNumber _ (tried t.birth.arrival) (λ n is. ap not (h w n is)) (tried_in t.birth.arrival)))
   where
     go : (c : Bool) → (c ≡ true → first_free numbers t.birth.arrival ≡ None) → cond c (first_free numbers t.birth.arrival) None ≡ None
     go true f = f refl
@@ -146,7 +146,7 @@ itself (Some n) = refl
 given_again : (numbers : List ℕ) (ts : List TrackState) → AllByRecursion (IsLeft (λ n. is_among numbers n ≡ true)) ts → given numbers ts ≡ ts
 given_again numbers [] h = refl
 given_again numbers (t ∷ ts) h =
-    let none = none_turn numbers t h.0 in
+    let none = none_new numbers t h.0 in
     ap (λ g. with_number (option_or t.number g) t ∷ given (option_to_list g ++ numbers) ts) none ∙ (λ j. with_number (itself t.number j) t ∷ given_again numbers ts h.1 j)
 
 again : (ts : List TrackState) → AllByRecursion (IsLeft (λ n. is_among (held ts) n ≡ true)) ts → assigned ts ≡ ts

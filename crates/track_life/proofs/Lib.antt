@@ -4,7 +4,7 @@ pub mod Told
 pub mod Numbering
 pub mod Leaps
 pub mod FirstFree
-pub mod Turns
+pub mod Giving
 pub mod Lent
 pub mod Differing
 pub mod Leaving

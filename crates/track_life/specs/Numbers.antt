@@ -34,7 +34,7 @@ abbrev pub is_among : List ℕ → ℕ → Bool
 is_among numbers n = list_any (λ m. m == n) numbers
 
 -- the order in which numbers are tried for a track whose first plot has this arrival: from one more than the arrival modulo 65,535 up to
--- 65,535, and then on from 1. So each number from 1 to 65,535 has its turn
+-- 65,535, and then on from 1. So each number from 1 to 65,535 stands in it once
 unfoldable pub tried : ℕ → List ℕ
 tried arrival = range_with_len (1 + arrival % 65535) (65535 - arrival % 65535) ++ range_with_len 1 (arrival % 65535)
 
@@ -46,14 +46,14 @@ first_free numbers arrival = find (λ n. not (is_among numbers n)) (tried arriva
 abbrev pub is_waiting : TrackState → Bool
 is_waiting t = t.confirmed && is_none t.number
 
--- the number that a track is given in its turn, where these are held
-abbrev pub turn : List ℕ → TrackState → Option ℕ
-turn numbers t = if is_waiting t then first_free numbers t.birth.arrival else None
+-- the number that a track is given, where these are held
+abbrev pub new_number : List ℕ → TrackState → Option ℕ
+new_number numbers t = if is_waiting t then first_free numbers t.birth.arrival else None
 
--- tracks after their turns, one after the other: each keeps its number, and what one is given is held in the turns after it
+-- tracks after numbers were given, one after the other: each keeps its own, and what one is given is held for those after it
 abbrev pub given : List ℕ → List TrackState → List TrackState
 given numbers [] = []
-given numbers (t ∷ ts) = with_number (option_or t.number (turn numbers t)) t ∷ given (option_to_list (turn numbers t) ++ numbers) ts
+given numbers (t ∷ ts) = with_number (option_or t.number (new_number numbers t)) t ∷ given (option_to_list (new_number numbers t) ++ numbers) ts
 
 -- a table after numbers were given, in birth order: none of the numbers that its tracks hold is given
 unfoldable pub assigned : List TrackState → List TrackState

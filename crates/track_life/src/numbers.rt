@@ -2,7 +2,7 @@
 ghost use Rattle.std.specs.Prelude.{◌≡◌, ◌++◌, ℕ, List, IfOk, OnErr, OnOk};
 ghost use Rattle.std.specs.List.{list_any};
 ghost use Rattle.std.specs.Option.{option_or, option_to_list};
-ghost use Rattle.track_life.specs.Numbers.{with_number, held, is_among, is_waiting, turn, assigned};
+ghost use Rattle.track_life.specs.Numbers.{with_number, held, is_among, is_waiting, new_number, assigned};
 ghost use Rattle.track_life.specs.HeldNumbers.{LeapOver};
 
 use crate::Track;
@@ -21,7 +21,7 @@ pub(crate) fn give_numbers(alloc: Global, tracks: &mut [Track]) -> Result<(), No
     }
     let mut held = held_by(alloc, tracks)?;
     for track in tracks.iter_mut() {
-        take_turn(track, &mut held);
+        give_number(track, &mut held);
     }
     Ok(())
 }
@@ -60,10 +60,10 @@ fn hold_number(numbers: &mut HeldNumbers, track: &Track)
     }
 }
 
-// A track's turn: where it waits for a number it is given the first that is free.
-fn take_turn(track: &mut Track, numbers: &mut HeldNumbers)
+// Where a track waits for a number it is given the first that is free.
+fn give_number(track: &mut Track, numbers: &mut HeldNumbers)
     ensures { (before : List ℕ) → LeapOver (is_among before) numbers.old
-        → (track.new ≡ with_number (option_or track.old.number (turn before track.old)) track.old) × LeapOver (is_among (option_to_list (turn before track.old) ++ before)) numbers.new }
+        → (track.new ≡ with_number (option_or track.old.number (new_number before track.old)) track.old) × LeapOver (is_among (option_to_list (new_number before track.old) ++ before)) numbers.new }
 {
     if is_waiting(track) {
         track.number = numbers.take_free(track.birth.arrival);

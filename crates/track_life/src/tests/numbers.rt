@@ -6,8 +6,8 @@ use std::alloc::Global;
 use std::test::Fail;
 use trk_base::{Key, NoMemory};
 
-// A track by the arrival of its first plot and whether it is confirmed, and its number before and
-// after its turn.
+// A track by the arrival of its first plot and whether it is confirmed, and its number before
+// and after numbers were given.
 type Row = (u64, bool, Option<u16>, Option<u16>);
 
 const ROWS: [&[Row]; 7] = [
@@ -69,7 +69,7 @@ fn tracks_of(alloc: Global, rows: &[Row]) -> Result<Vec<Track>, NoMemory> {
     Ok(tracks)
 }
 
-// Whether each track has the number that its row tells after all had their turns.
+// Whether each track has the number that its row tells after numbers were given.
 fn are_given(alloc: Global, rows: &[Row]) -> Result<bool, NoMemory> {
     let mut tracks = tracks_of(alloc, rows)?;
     give_numbers(alloc, &mut tracks)?;
@@ -93,7 +93,7 @@ fn crowd(alloc: Global, free: u16) -> Result<Vec<Track>, NoMemory> {
     Ok(tracks)
 }
 
-// The number of the last track of such a crowd after all had their turns.
+// The number of the last track of such a crowd after numbers were given.
 fn number_in_crowd(alloc: Global, free: u16) -> Result<Option<u16>, NoMemory> {
     let mut tracks = crowd(alloc, free)?;
     give_numbers(alloc, &mut tracks)?;

@@ -7,5 +7,5 @@ abbrev pub invariant-loop-track : goal.invariant-loop-track
 invariant-loop-track l = record {
   before : List ℕ;
   over : LeapOver (is_among before) l.held;
-  turns : given (held l.fn.tracks) l.fn.tracks ≡ take l.track-index l.tracks ++ given before (drop l.track-index l.tracks);
+  whole : given (held l.fn.tracks) l.fn.tracks ≡ take l.track-index l.tracks ++ given before (drop l.track-index l.tracks);
 }

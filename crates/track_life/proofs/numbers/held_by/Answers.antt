@@ -2,7 +2,7 @@ use Rattle.std.proofs.Common.{subst}
 use Rattle.std.proofs.lemmas.List.{take_all}
 use Rattle.track_life.specs.Numbers.{held, is_among}
 use Rattle.track_life.specs.HeldNumbers.{LeapOver}
-use Rattle.track_life.proofs.Turns.{over_more}
+use Rattle.track_life.proofs.Giving.{over_more}
 use Rattle.track_life.proofs.numbers.held_by.Goals as goal
 
 pub loop-track-preserved : goal.loop-track-preserved

@@ -1,4 +1,4 @@
--- Tracks have their turns one after the other.
+-- Tracks are given their numbers one after the other.
 use Rattle.std.proofs.Common.{◌≡◌, ◌∙◌, refl, sym, ap, ℕ, ◌+◌, ◌<◌, ◌≤◌, cond, List, [], ◌∷◌, ◌++◌, Bool, true, false, take, drop, suc, length, get_or, set, append_assoc, eqb, arith}
 use Rattle.std.specs.Prelude.{◌||◌, Option, Some, None}
 use Rattle.std.specs.Option.{option_or, option_to_list}
@@ -9,7 +9,7 @@ use Rattle.std.proofs.lemmas.List.{append-nil, drop-set-lt, drop_all, take_all}
 use Rattle.std.proofs.lemmas.List.Elements.{filter_map-append}
 use Rattle.std.proofs.lemmas.List.Folds.{list_any-append}
 use Rattle.track_life.specs.Tracks.{TrackState}
-use Rattle.track_life.specs.Numbers.{with_number, held, is_among, first_free, is_waiting, turn, given, assigned}
+use Rattle.track_life.specs.Numbers.{with_number, held, is_among, first_free, is_waiting, new_number, given, assigned}
 use Rattle.track_life.specs.HeldNumbers.{LeapOver}
 use Rattle.track_life.proofs.Leaps.{over_same}
 
@@ -33,19 +33,19 @@ over_more ts i t ls lt e h =
     let more : take (i + 1) ts ≡ take i ts ++ t ∷ [] = taken_more ts i t lt e in
     over_same _ _ ls (λ n. among_more (take i ts) t n ∙ ap (λ us. is_among (held us) n) (sym more)) h
 
--- one more track had its turn
-pub turn_taken : (before : List ℕ) (all ts : List TrackState) (i : ℕ) (t u : TrackState) → i < length ts → t ≡ get_or ts i t → u ≡ with_number (option_or t.number (turn before t)) t → all ≡ take i ts ++ given before (drop i ts)
-    → all ≡ take (i + 1) (set ts i u) ++ given (option_to_list (turn before t) ++ before) (drop (i + 1) (set ts i u))
-turn_taken before all ts i t u lt e d h =
+-- one more track was given its number
+pub one_given : (before : List ℕ) (all ts : List TrackState) (i : ℕ) (t u : TrackState) → i < length ts → t ≡ get_or ts i t → u ≡ with_number (option_or t.number (new_number before t)) t → all ≡ take i ts ++ given before (drop i ts)
+    → all ≡ take (i + 1) (set ts i u) ++ given (option_to_list (new_number before t) ++ before) (drop (i + 1) (set ts i u))
+one_given before all ts i t u lt e d h =
     let next : i + 1 ≡ suc i = omega arith in
     let taken : take (i + 1) (set ts i u) ≡ take i ts ++ u ∷ [] = ap (λ k. take k (set ts i u)) next ∙ take-suc-set ts i u lt in
     let rest : drop (i + 1) (set ts i u) ≡ drop (suc i) ts = drop-set-lt (i + 1) ts i u (omega arith) ∙ ap (λ k. drop k ts) next in
     let here : drop i ts ≡ t ∷ drop (suc i) ts = drop-cons ts i t lt ∙ ap (λ x. x ∷ drop (suc i) ts) (sym e) in
-    let after = option_to_list (turn before t) ++ before in
+    let after = option_to_list (new_number before t) ++ before in
     h ∙ ap (λ us. take i ts ++ given before us) here ∙ ap (λ x. take i ts ++ x ∷ given after (drop (suc i) ts)) (sym d) ∙ sym (append_assoc (take i ts) (u ∷ []) (given after (drop (suc i) ts)))
     ∙ (λ j. sym taken j ++ given after (sym rest j))
 
--- after the last turn
+-- after the last track
 pub all_taken : (before : List ℕ) (all ts : List TrackState) (i : ℕ) → length ts ≤ i → all ≡ take i ts ++ given before (drop i ts) → ts ≡ all
 all_taken before all ts i le h = sym (h ∙ (λ j. take_all i ts le j ++ given before (drop_all i ts le j)) ∙ append-nil ts)
 
