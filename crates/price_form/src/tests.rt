@@ -1,3 +1,4 @@
+// Price files octet by octet.
 use crate::{
     PriceRecord, PricesError, certificate_offsets, check, check_at, prefix_fault, read_prices,
     start_prices, write_cert, write_edition,
