@@ -127,7 +127,7 @@ pub fn first_pairing(
     ensures { IfOk result (λ pairing. (tracks : ℕ) (rows : List Row) → ShowsRest graph.now (length prices.old) tracks gone.old 0 rows → IsLeast rows pairing.items) }
 {
     let mut pairing = Vec::with_capacity(alloc, graph.plots)?;
-    let mut tight = Vec::new(alloc);
+    let mut tight = Vec::with_capacity(alloc, prices.len() - graph.plots)?;
     for p in 0..graph.plots {
         tight.clear();
         candidates(graph, prices, gone, p, &mut tight)?;
