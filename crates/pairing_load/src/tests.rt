@@ -36,23 +36,25 @@ fn run(alloc: Global, texts: &[&str], room: [usize; 2], fails: &[u64]) -> Result
     })
 }
 
-// The sums were found by a program of another language, which draws the same words and tries all
-// pairings.
+// Loads of problems, and the lines that tell their sums. These were found by a program of another
+// language, which draws the same words and tries all pairings.
+const SUMS: [(&str, &str, &str, &str, &str); 4] = [
+    ("2", "3", "random", "1", "problems 2 cost 4584\n"),
+    (
+        "5",
+        "6",
+        "random",
+        "18446744073709551615",
+        "problems 5 cost 28197\n",
+    ),
+    ("2", "3", "equal", "1", "problems 2 cost 12288\n"),
+    ("0", "1000", "random", "0", "problems 0 cost 0\n"),
+];
+
 #[test]
 fn sums_the_least_costs(rt: HostRuntime) -> Result<(), Fail> {
-    for (count, size, costs, seed, line) in [
-        ("2", "3", "random", "1", "problems 2 cost 4584\n"),
-        (
-            "5",
-            "6",
-            "random",
-            "18446744073709551615",
-            "problems 5 cost 28197\n",
-        ),
-        ("2", "3", "equal", "1", "problems 2 cost 12288\n"),
-        ("0", "1000", "random", "0", "problems 0 cost 0\n"),
-    ] {
-        let words = ["pairings", count, size, costs, seed];
+    for (count, size, costs, seed, line) in &SUMS {
+        let words = ["pairings", *count, *size, *costs, *seed];
         let end = run(rt.alloc(), &words, [0, 64], &[])?;
         assert_eq!(rt; end.status, Status::Done);
         assert_eq!(rt; end.screen.as_slice(), line.as_bytes());
@@ -106,22 +108,29 @@ fn writes_certificates_that_prove(rt: HostRuntime) -> Result<(), Fail> {
     Ok(())
 }
 
-// Binding fails, writing the beginning, and writing each of two certificates; then room is wanting.
+// How much room Output has, which calls fail, and how much Output then got of two certificates:
+// binding fails, writing the beginning, and writing each certificate; then room is wanting.
+const STOPS: [(usize, &[u64], usize); 5] = [
+    (461, &[0], 0),
+    (461, &[1], 0),
+    (461, &[2], 21),
+    (461, &[3], 241),
+    (460, &[], 460),
+];
+
 #[test]
-fn stops_where_a_place_fails(rt: HostRuntime) -> Result<(), Fail> {
-    let words = ["prices", "2", "1", "out"];
-    for (room, fails, octets) in [
-        (461, [0].as_slice(), 0),
-        (461, [1].as_slice(), 0),
-        (461, [2].as_slice(), 21),
-        (461, [3].as_slice(), 241),
-        (460, [].as_slice(), 460),
-    ] {
-        let end = run(rt.alloc(), &words, [room, 0], fails)?;
+fn stops_where_output_fails(rt: HostRuntime) -> Result<(), Fail> {
+    for (room, fails, octets) in &STOPS {
+        let words = ["prices", "2", "1", "out"];
+        let end = run(rt.alloc(), &words, [*room, 0], fails)?;
         assert_eq!(rt; end.status, Status::Write(Place::Output));
-        assert_eq!(rt; end.output.len(), octets);
-        assert_eq!(rt; end.faults, 1);
+        assert_eq!(rt; (end.output.len(), end.faults), (*octets, 1));
     }
+    Ok(())
+}
+
+#[test]
+fn stops_where_screen_fails(rt: HostRuntime) -> Result<(), Fail> {
     let words = ["pairings", "2", "3", "random", "1"];
     let end = run(rt.alloc(), &words, [0, 9], &[])?;
     assert_eq!(rt; end.status, Status::Write(Place::Screen));
@@ -129,28 +138,31 @@ fn stops_where_a_place_fails(rt: HostRuntime) -> Result<(), Fail> {
     Ok(())
 }
 
-// The first of these words, so many, are no load: that is told, and nothing is written.
+// Of each of these the first words, so many, are no load.
+const OTHERS: [(&str, &str, &str, &str, &str, usize); 14] = [
+    ("", "", "", "", "", 0),
+    ("pairings", "", "", "", "", 1),
+    ("prices", "1", "1", "", "", 3),
+    ("prices", "1", "18446744073709551616", "out", "", 4),
+    ("pairings", "1", "1", "drawn", "1", 5),
+    ("pairings", "4294967296", "1", "equal", "1", 5),
+    ("pairings", "1", "0", "equal", "1", 5),
+    ("pairings", "1", "1001", "equal", "1", 5),
+    ("pairings", "1", "01", "equal", "1", 5),
+    ("pairings", "1", "+1", "equal", "1", 5),
+    ("pairings", "1", "-1", "equal", "1", 5),
+    ("pairings", "1", "", "equal", "1", 5),
+    ("pairings", "1", "1 ", "equal", "1", 5),
+    ("pairings", "1", "x", "equal", "1", 5),
+];
+
+// Other words are told so, and nothing is written.
 #[test]
 fn refuses_other_words(rt: HostRuntime) -> Result<(), Fail> {
-    for (command, count, size, costs, seed, words) in [
-        ("", "", "", "", "", 0),
-        ("pairings", "", "", "", "", 1),
-        ("prices", "1", "1", "", "", 3),
-        ("prices", "1", "18446744073709551616", "out", "", 4),
-        ("pairings", "1", "1", "drawn", "1", 5),
-        ("pairings", "4294967296", "1", "equal", "1", 5),
-        ("pairings", "1", "0", "equal", "1", 5),
-        ("pairings", "1", "1001", "equal", "1", 5),
-        ("pairings", "1", "01", "equal", "1", 5),
-        ("pairings", "1", "+1", "equal", "1", 5),
-        ("pairings", "1", "-1", "equal", "1", 5),
-        ("pairings", "1", "", "equal", "1", 5),
-        ("pairings", "1", "1 ", "equal", "1", 5),
-        ("pairings", "1", "x", "equal", "1", 5),
-    ] {
-        let texts = [command, count, size, costs, seed];
-        if words <= texts.len() {
-            let end = run(rt.alloc(), &texts[..words], [64, 64], &[])?;
+    for (command, count, size, costs, seed, words) in &OTHERS {
+        let texts = [*command, *count, *size, *costs, *seed];
+        if *words <= texts.len() {
+            let end = run(rt.alloc(), &texts[..*words], [64, 64], &[])?;
             assert_eq!(rt; end.status, Status::Usage);
             assert!(rt; end.screen.is_empty() && end.output.is_empty());
         }
