@@ -8,7 +8,16 @@
 //! layers above rest on: a run in parts, a slot without plots, and numbers that no run reads.
 #![tactic(auto)]
 
+mod batches;
+mod certs;
 mod laws;
+mod reaching;
+mod slots;
+
+pub use batches::{Batch, batches_of};
+pub use certs::KeyedCert;
+pub use reaching::{batch_tables, reaches};
+pub use slots::{SlotRan, slot_run};
 
 pub use laws::{
     batch_certificates, component_certificates, empty_batch, expired_twice, keyed_tracks,
