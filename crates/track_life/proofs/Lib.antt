@@ -1,3 +1,4 @@
 pub mod Detected
 pub mod Expiry
 pub mod Told
+pub mod Numbering

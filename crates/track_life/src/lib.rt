@@ -5,12 +5,16 @@
 //! Tracking and Navigation" (2001): a track is tentative until it is confirmed.
 #![tactic(auto)]
 
+mod laws;
+mod numbers;
 mod settings;
 mod tables;
 #[cfg(test)]
 mod tests;
 mod tracks;
 
+pub use laws::numbers_alone;
+pub use numbers::assign_numbers;
 pub use settings::LifeSettings;
 pub use tables::{Table, expire};
 pub use tracks::Track;
