@@ -2,8 +2,7 @@
 ghost use Rattle.std.specs.Prelude.{◌≡◌, ◌<◌, ◌+◌, IfOk};
 ghost use Rattle.std.specs.List.{AllByRecursion};
 ghost use Rattle.price_form.specs.Certificates.{IsCert};
-ghost use Rattle.slot_step.specs.Slots.{run};
-ghost use Rattle.slot_step.specs.Tracker.{tracking, ordered};
+ghost use Rattle.slot_step.specs.Tracker.{run_tracks, step_tracks};
 ghost use Rattle.slot_step.specs.Calls.{AreBatches, AreFromBefore, plots_of};
 ghost use Rattle.slot_step.specs.Told.{AreTold};
 
@@ -40,7 +39,30 @@ pub fn slot_run(
     requires batches { AreBatches slot batches.now }
     requires earlier { AreFromBefore slot table.now }
     requires left { 0 < ticket.old }
-    ensures table { IfOk result (λ ran. ran.table ≡ run (tracking life.now) (ordered life.now) table.now slot (plots_of batches.now)) }
+    ensures table { IfOk result (λ ran. ran.table ≡ run_tracks life.now table.now slot (plots_of batches.now)) }
+    ensures certs { IfOk result (λ ran. AreTold life.now table.now slot (plots_of batches.now) ran.certs) }
+    ensures whole { IfOk result (λ ran. AllByRecursion (λ c. IsCert c.cert) ran.certs) }
+    ensures before { IfOk result (λ ran. AreFromBefore (slot + 1) ran.table) }
+    ensures spent { ticket.new + 1 ≡ ticket.old }
+{
+    ticket.spend();
+    Err(NoMemory)
+}
+
+/// The step of a slot: the same, and then each confirmed track without a number is given one, in
+/// birth order. One step of the ticket is spent, also where memory is wanting.
+pub fn slot_step(
+    alloc: Global,
+    table: &Table,
+    slot: u64,
+    batches: &[Batch],
+    life: &LifeSettings,
+    ticket: &mut Ticket,
+) -> Result<SlotRan, NoMemory>
+    requires batches { AreBatches slot batches.now }
+    requires earlier { AreFromBefore slot table.now }
+    requires left { 0 < ticket.old }
+    ensures table { IfOk result (λ ran. ran.table ≡ step_tracks life.now table.now slot (plots_of batches.now)) }
     ensures certs { IfOk result (λ ran. AreTold life.now table.now slot (plots_of batches.now) ran.certs) }
     ensures whole { IfOk result (λ ran. AllByRecursion (λ c. IsCert c.cert) ran.certs) }
     ensures before { IfOk result (λ ran. AreFromBefore (slot + 1) ran.table) }
