@@ -1,0 +1,9 @@
+pub mod Numbered
+pub mod Folding
+pub mod Radars
+pub mod Pictures
+pub mod Lines
+pub mod Certificates
+pub mod Prices
+pub mod Datagrams
+pub mod Editions
