@@ -1,5 +1,6 @@
 -- Track numbers (I062/040): which number each track of a table has once numbers were given.
-use Rattle.std.specs.Prelude.{ℕ, ◌+◌, ◌-◌, ◌%◌, ◌==◌, Bool, not, ◌&&◌, if◌then◌else◌, List, [], ◌∷◌, ◌++◌, Option, is_none}
+use Rattle.std.specs.Prelude.{ℕ, ◌+◌, ◌-◌, ◌%◌, ◌==◌, Bool, not, ◌&&◌, if◌then◌else◌, List, [], ◌∷◌, ◌++◌, Option, None, is_none}
+use Rattle.std.specs.Option.{option_or, option_to_list}
 use Rattle.std.specs.List.{filter_map, find, list_any, range_with_len}
 use Rattle.track_life.specs.Tracks.{TrackState}
 
@@ -41,15 +42,15 @@ first_free numbers arrival = find (λ n. not (is_among numbers n)) (tried arriva
 abbrev pub is_waiting : TrackState → Bool
 is_waiting t = t.confirmed && is_none t.number
 
--- a track after its turn, where these numbers are held
-abbrev pub numbered : List ℕ → TrackState → TrackState
-numbered numbers t = if is_waiting t then with_number (first_free numbers t.birth.arrival) t else t
+-- the number that a track is given in its turn, where these are held
+abbrev pub turn : List ℕ → TrackState → Option ℕ
+turn numbers t = if is_waiting t then first_free numbers t.birth.arrival else None
 
--- tracks in the order of their turns: a number that one is given is held in the turns after it
+-- tracks after their turns, one after the other: each keeps its number, and what one is given is held in the turns after it
 abbrev pub given : List ℕ → List TrackState → List TrackState
 given numbers [] = []
-given numbers (t ∷ ts) = numbered numbers t ∷ given (held (numbered numbers t ∷ []) ++ numbers) ts
+given numbers (t ∷ ts) = with_number (option_or t.number (turn numbers t)) t ∷ given (option_to_list (turn numbers t) ++ numbers) ts
 
--- a table after numbers were given, in birth order: what its tracks hold at first, no other is given
+-- a table after numbers were given, in birth order: none of the numbers that its tracks hold is given
 unfoldable pub assigned : List TrackState → List TrackState
 assigned ts = given (held ts) ts
