@@ -1,1 +1,3 @@
 pub mod Conjunctions
+pub mod Profiles
+pub mod ProfileReading

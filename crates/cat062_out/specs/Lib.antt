@@ -1,3 +1,5 @@
 pub mod Errors
 pub mod Tracks
 pub mod TrackRecords
+pub mod Profile
+pub mod Answers
