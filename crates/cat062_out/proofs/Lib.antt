@@ -1,2 +1,4 @@
+pub mod Conjunctions
 pub mod Profiles
 pub mod ProfileReading
+pub mod TrackItems

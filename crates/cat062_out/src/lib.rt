@@ -3,7 +3,9 @@
 #![tactic(auto)]
 
 mod error;
+mod items;
 mod line;
+mod octets;
 mod reader;
 mod stamp;
 mod writer;
