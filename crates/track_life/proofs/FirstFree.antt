@@ -1,13 +1,12 @@
 -- The first free number on the line is the first that is tried and isn't held.
-use Rattle.std.proofs.Common.{◌≡◌, ◌∙◌, refl, sym, ap, subst, inl, inr, ℕ, zero, suc, ◌+◌, ◌-◌, ◌*◌, ◌%◌, ◌<◌, ◌≤◌, Bool, true, false, cond, List, [], ◌∷◌, ◌++◌, get_or, length, replicate, Option, Some, None, arith}
+use Rattle.std.proofs.Common.{◌≡◌, ◌∙◌, refl, sym, ap, subst, inl, inr, ℕ, zero, suc, ◌+◌, ◌-◌, ◌%◌, ◌<◌, ◌≤◌, Bool, true, false, cond, List, ◌++◌, Option, Some, None, arith}
 use Rattle.std.specs.Prelude.{not}
 use Rattle.std.specs.Option.{option_or}
 use Rattle.std.specs.List.{find, range_with_len}
 use Rattle.std.proofs.lemmas.Bool.{cases_lt}
-use Rattle.std.proofs.lemmas.List.{get_or-replicate}
 use Rattle.std.proofs.lemmas.List.Folds.{find-append}
 use Rattle.track_life.specs.Numbers.{is_among, tried, first_free}
-use Rattle.track_life.specs.HeldNumbers.{AreLeaps, LeapOver, IsNextFree, IsFirstFree}
+use Rattle.track_life.specs.HeldNumbers.{IsNextFree, IsFirstFree}
 
 clash : (b : Bool) → b ≡ true → b ≡ false → ⊥
 clash b e d = cc

@@ -4,7 +4,7 @@ use Rattle.std.specs.Prelude.{◌||◌}
 use Rattle.std.proofs.lemmas.Bool.{cases_eq, cases_lt, eq-eqb, ne_eqb}
 use Rattle.std.proofs.lemmas.List.{get_or-replicate, get_or_past, length-replicate}
 use Rattle.track_life.specs.Numbers.{is_among}
-use Rattle.track_life.specs.HeldNumbers.{AreLeaps, LeapOver, IsNextFree, IsFirstFree}
+use Rattle.track_life.specs.HeldNumbers.{AreLeaps, LeapOver}
 
 -- what holds of each place after a write
 after_set : (P : ℕ → ℕ → Type 0) (xs : List ℕ) (i v : ℕ) → i < length xs → P i v → ((n : ℕ) → n ≢ i → P n (get_or xs n 0)) → (n : ℕ) → P n (get_or (set xs i v) n 0)

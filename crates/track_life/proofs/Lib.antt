@@ -6,3 +6,5 @@ pub mod Leaps
 pub mod FirstFree
 pub mod Turns
 pub mod Lent
+pub mod Differing
+pub mod Leaving

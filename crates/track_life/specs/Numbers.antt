@@ -1,5 +1,5 @@
 -- Track numbers (I062/040): which number each track of a table has once numbers were given.
-use Rattle.std.specs.Prelude.{ℕ, ◌+◌, ◌-◌, ◌%◌, ◌==◌, Bool, not, ◌&&◌, if◌then◌else◌, List, [], ◌∷◌, ◌++◌, Option, None, is_none}
+use Rattle.std.specs.Prelude.{ℕ, ◌+◌, ◌-◌, ◌≤◌, ◌%◌, ◌==◌, Bool, not, ◌&&◌, if◌then◌else◌, List, [], ◌∷◌, ◌++◌, Option, None, is_none}
 use Rattle.std.specs.Option.{option_or, option_to_list}
 use Rattle.std.specs.List.{filter_map, find, list_any, range_with_len}
 use Rattle.track_life.specs.Tracks.{TrackState}
@@ -20,6 +20,10 @@ with_number x t = record {
   confirmed = t.confirmed;
   number = x;
 }
+
+-- a track number
+abbrev pub IsNumber : ℕ → Type 0
+IsNumber n = (1 ≤ n) × (n ≤ 65535)
 
 -- the numbers that tracks hold
 abbrev pub held : List TrackState → List ℕ

@@ -8,8 +8,11 @@ use std::alloc::Global;
 use std::marker::Model;
 use trk_base::NoMemory;
 
-// A place for each number from 0 to 65,535, and one after them.
-const PLACES: usize = 65_537;
+// The greatest track number.
+const GREATEST: usize = 65_535;
+
+// A place for each number from 0 on, and one after the greatest.
+const PLACES: usize = GREATEST + 2;
 
 // The track numbers that are held. From each number's place one leaps over numbers that are held,
 // and where the leap is 0 the number is free.
@@ -51,8 +54,9 @@ impl HeldNumbers {
     pub(crate) fn take_free(&mut self, arrival: u64) -> Option<u16>
         ensures { (numbers : List ℕ) → LeapOver (is_among numbers) self.old → LeapOver (is_among (option_to_list result ++ numbers)) self.new × (result ≡ first_free numbers arrival) }
     {
-        let place = first_free_place(&mut self.leaps, 1 + (arrival % 65_535) as usize);
-        if place <= 65_535 {
+        let from = 1 + arrival as usize % GREATEST;
+        let place = first_free_place(&mut self.leaps, from);
+        if place <= GREATEST {
             hold_at(&mut self.leaps, place);
             Some(place as u16)
         } else {
@@ -79,10 +83,10 @@ fn first_free_place(leaps: &mut [u16], from: usize) -> usize
     ensures first { (held : ℕ → Bool) → LeapOver held leaps.old → LeapOver held leaps.new × IsFirstFree held from result }
 {
     let place = next_free(leaps, from);
-    if place <= 65_535 {
-        place
-    } else {
+    if GREATEST < place {
         next_free(leaps, 1)
+    } else {
+        place
     }
 }
 

@@ -14,7 +14,7 @@ mod tables;
 mod tests;
 mod tracks;
 
-pub use laws::numbers_alone;
+pub use laws::{numbers_alone, numbers_differ, numbers_left};
 pub use settings::LifeSettings;
 pub use tables::{Table, assign_numbers, expire};
 pub use tracks::Track;

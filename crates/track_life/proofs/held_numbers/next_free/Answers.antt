@@ -1,4 +1,4 @@
-use Rattle.std.proofs.Common.{◌+◌, ◌≤◌, refl, inl, inr, get_or, arith}
+use Rattle.std.proofs.Common.{◌+◌, ◌≤◌, refl, inl, inr, arith}
 use Rattle.std.proofs.lemmas.Bool.{cases_lt}
 use Rattle.track_life.proofs.Leaps.{leaps_set, reached, passed, leap_on}
 use Rattle.track_life.proofs.held_numbers.next_free.Goals as goal

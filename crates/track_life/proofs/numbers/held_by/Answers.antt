@@ -1,4 +1,4 @@
-use Rattle.std.proofs.Common.{ap, subst}
+use Rattle.std.proofs.Common.{subst}
 use Rattle.std.proofs.lemmas.List.{take_all}
 use Rattle.track_life.specs.Numbers.{held, is_among}
 use Rattle.track_life.specs.HeldNumbers.{LeapOver}
