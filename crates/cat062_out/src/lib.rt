@@ -8,6 +8,7 @@ mod line;
 mod octets;
 mod reader;
 mod stamp;
+mod values;
 mod writer;
 
 pub use error::ProfileError;
