@@ -1,6 +1,7 @@
 pub mod Conjunctions
 pub mod Profiles
 pub mod ProfileReading
+pub mod ProfilePassing
 pub mod TrackItems
 pub mod KnownItems
 pub mod Written
