@@ -100,8 +100,7 @@ module _ (s : Stamp) (l : TrackLine) where
       let at-level = all_of 17 two_signed IsItemOf l.level (item_of 27 (accuracy_octets l) ∷ []) (λ z _. fixed 17 (two_signed z) refl (λ e. omega (arith, e))) (accuracy_item l, tt) in
       let at-status : AllByRecursion IsItemOf from_status = (fixed 12 _ refl (λ e. omega (arith, e)), (fixed 13 _ refl (λ e. omega (arith, e)), (ages_item l, at-level))) in
       let at-address = all_of 11 address_octets IsItemOf l.address from_status (λ a _. address_item a) at-status in
-      let at-code = all_of 9 (λ code. big_endian 2 code) IsItemOf l.code from_address (λ code _. fixed 9 (big_endian 2 code) refl (λ e. omega (arith, e))) at-address in
-      (
+      let at-code = all_of 9 (λ code. big_endian 2 code) IsItemOf l.code from_address (λ code _. fixed 9 (big_endian 2 code) refl (λ e. omega (arith, e))) at-address in (
         fixed 1 _ refl (λ e. omega (arith, e)),
         (fixed 3 _ refl (λ e. omega (arith, e)), (time_item s.tod h.tod, (fixed 6 _ refl (λ e. omega (arith, e)), (fixed 7 _ refl (λ e. omega (arith, e)), at-code)))),
       )

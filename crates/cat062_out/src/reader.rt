@@ -26,10 +26,7 @@ use std::alloc::Global;
 /// It is refused exactly where the block's body isn't records that this system writes, and then by
 /// the first record that is none: as `Malformed` where the octets aren't a record of the category,
 /// as `Profile` where a whole record isn't one that `write_track` writes.
-pub fn read062(
-    alloc: Global,
-    block: &Block<'_>,
-) -> Result<Vec<(Stamp, TrackLine)>, ProfileError>
+pub fn read062(alloc: Global, block: &Block<'_>) -> Result<Vec<(Stamp, TrackLine)>, ProfileError>
     requires { block.now.cat ≡ 62 }
     ensures read { IfOk result (λ v. AreWritten IsTrack items_of block.now.body.now v.items) }
     ensures refused { IfRefused result (λ e. IsRefusal Cat062 IsTrack items_of block.now e) }

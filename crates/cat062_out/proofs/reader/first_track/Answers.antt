@@ -18,10 +18,9 @@ returns-then-eq-clause-found c =
 pub returns-clause-none : goal.returns-clause-none
 returns-clause-none c =
     let body = c.args.block.now.body.now in
-    let has = c.in_ok-items.ensures.found in
-    (
+    let has = c.in_ok-items.ensures.found in (
       no_track_there body c.args.from has.0 c.in_ok-items.items has.1 c.in_ok-items.ensures.advances.1 c.stamp_of-stamp.result c.line_of-line.result c.in_ok-written.written.items c.in_ok-written.ensures.octets
-      c.stamp_of-stamp.ensures c.line_of-line.ensures
-      (ap (λ t. pointwise nat_eq t (take (c.in_ok-items.items.next - c.args.from) (drop c.args.from body))) (sym c.as_slice.ensures.value) ∙ sym c.eq.ensures ∙ c.if-eq.false),
+          c.stamp_of-stamp.ensures c.line_of-line.ensures
+          (ap (λ t. pointwise nat_eq t (take (c.in_ok-items.items.next - c.args.from) (drop c.args.from body))) (sym c.as_slice.ensures.value) ∙ sym c.eq.ensures ∙ c.if-eq.false),
       refl,
     )
