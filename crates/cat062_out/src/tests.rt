@@ -166,6 +166,7 @@ fn reads_tracks_and_writes_them_again(rt: HostRuntime) -> Result<(), Fail> {
         assert!(rt; is_stamp(stamp, &row), "{}", row.number);
         assert!(rt; moves_so(line, &row), "{}", row.number);
         assert!(rt; is_seen_so(line, &row), "{}", row.number);
+        assert_eq!(rt; block.category(), 62);
         assert!(rt; write_track(rt.alloc(), stamp, line, &mut block)?);
     }
     assert_eq!(rt; block.finish().as_slice(), BLOCK.as_slice());
@@ -214,13 +215,11 @@ const ONE_PLOT: [u8; 36] = [
 fn fills_a_block(rt: HostRuntime) -> Result<(), Fail> {
     let (stamp, line) = one_plot();
     let mut block = BlockWriter::new(rt.alloc(), 62);
-    let mut count = 0;
-    for _ in 0..50 {
-        if write_track(rt.alloc(), &stamp, &line, &mut block)? {
-            count += 1;
-        }
+    for number in 0..50 {
+        assert_eq!(rt; block.category(), 62);
+        let added = write_track(rt.alloc(), &stamp, &line, &mut block)?;
+        assert_eq!(rt; added, number < 42);
     }
-    assert_eq!(rt; count, 42);
     let octets = block.finish();
     assert_eq!(rt; octets.len(), 1_389);
     assert_eq!(rt; octets.get(3..36), ONE_PLOT.get(3..));
