@@ -5,7 +5,7 @@ use Rattle.asterix_frame.specs.Elements.{Element}
 use Rattle.asterix_frame.specs.Values.{big_endian}
 use Rattle.asterix_frame.specs.DataRecords.{record_octets}
 use Rattle.asterix_frame.specs.Encoding.{bit, item_of, record_of, compound_of}
-use Rattle.cat062_out.specs.Tracks.{Stamp, TrackLine}
+use Rattle.cat062_out.specs.Tracks.{Stamp, IsStamp, TrackLine, IsTrackLine}
 
 -- ---- numbers in octets, the highest first
 
@@ -65,35 +65,66 @@ accuracy_octets l = compound_of (item_of 1 (big_endian 2 l.sx ++ big_endian 2 l.
 
 -- ---- the record
 
--- Each line has an item: FRN, item of the standard, number of octets, what they say and in which unit.
-unfoldable pub track_items : Stamp → TrackLine → List Element
-track_items s l =
+-- Each item with its FRN, its number in the standard, its number of octets, and what they say, in which unit.
+
+-- who tells the track, and when
+abbrev pub stamp_items : Stamp → List Element
+stamp_items s =
     -- 1, I062/010, 2: SAC and SIC of this system
     item_of 1 (s.sac ∷ s.sic ∷ [])
     -- 3, I062/015, 1: the service
     ∷ item_of 3 (s.service ∷ [])
     -- 4, I062/070, 3: the time of day in 1/128 s
     ∷ item_of 4 (big_endian 3 s.tod)
+    ∷ []
+
+-- where it is, and how it moves
+abbrev pub motion_items : TrackLine → List Element
+motion_items l =
     -- 6, I062/100, 6: the position to the east and to the north in 1/2 m, signed
-    ∷ item_of 6 (three_signed l.x ++ three_signed l.y)
+    item_of 6 (three_signed l.x ++ three_signed l.y)
     -- 7, I062/185, 4: the velocity to the east and to the north in 1/4 m/s, signed
     ∷ item_of 7 (two_signed l.vx ++ two_signed l.vy)
-    -- 9, I062/060, 2, where it is known: the Mode 3/A code, in the lower 12 bits
-    ∷ (where_known 9 (λ code. big_endian 2 code) l.code
-    -- 11, I062/380, 4, where it is known: the aircraft address
-    ++ (where_known 11 address_octets l.address
+    ∷ []
+
+-- which track it is, and how surely it is seen
+abbrev pub status_items : TrackLine → List Element
+status_items l =
     -- 12, I062/040, 2: the track's number
-    ++ (item_of 12 (big_endian 2 l.number)
+    item_of 12 (big_endian 2 l.number)
     -- 13, I062/080, 4: the track's status
     ∷ item_of 13 (status_octets l)
     -- 14, I062/290, 2 to 4: the ages of the last detections in 1/4 s, each where there was one
     ∷ item_of 14 (ages_octets l)
+    ∷ []
+
+-- the record's items
+unfoldable pub track_items : Stamp → TrackLine → List Element
+track_items s l =
+    stamp_items s
+    ++ (motion_items l
+    -- 9, I062/060, 2, where it is known: the Mode 3/A code, in the lower 12 bits
+    ++ (where_known 9 (λ code. big_endian 2 code) l.code
+    -- 11, I062/380, 4, where it is known: the aircraft address
+    ++ (where_known 11 address_octets l.address
+    ++ (status_items l
     -- 17, I062/136, 2, where it is known: the measured flight level in 1/4 FL, signed
-    ∷ (where_known 17 two_signed l.level
+    ++ (where_known 17 two_signed l.level
     -- 27, I062/500, 5: the standard deviation of the position to the east and to the north in 1/2 m
-    ++ item_of 27 (accuracy_octets l)
-    ∷ []))))
+    ++ item_of 27 (accuracy_octets l) ∷ [])))))
 
 -- its octets
 unfoldable pub track_record : Stamp → TrackLine → List ℕ
 track_record s l = record_octets (record_of (track_items s l))
+
+-- the octets that a track's record has at most
+abbrev pub track_limit : ℕ
+track_limit = 43
+
+-- ---- a stamp and a line together, as they are read
+
+abbrev pub IsTrack : Stamp × TrackLine → Type 0
+IsTrack track = IsStamp track.0 × IsTrackLine track.1
+
+abbrev pub items_of : Stamp × TrackLine → List Element
+items_of track = track_items track.0 track.1
