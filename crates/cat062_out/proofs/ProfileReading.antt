@@ -28,7 +28,7 @@ module _ (T : Type 0) (uap : Uap) (Is : T → Type 0) (items : T → List Elemen
   value_there body from r s v h is within e =
       let size : s.next - from ≡ length (record_octets r) = omega (arith, h.next) in
       let cut : take (s.next - from) (drop from body) ≡ record_octets r =
-          ap (λ n. take n (drop from body)) size ∙ ap (take (length (record_octets r))) h.octets ∙ take-append_seam (record_octets r) (drop s.next body) in
+      ap (λ n. take n (drop from body)) size ∙ ap (take (length (record_octets r))) h.octets ∙ take-append_seam (record_octets r) (drop s.next body) in
       record {
         is_value = is;
         octets = h.octets ∙ ap (λ x. x ++ drop s.next body) (sym (e ∙ cut));
@@ -46,8 +46,8 @@ module _ (T : Type 0) (uap : Uap) (Is : T → Type 0) (items : T → List Elemen
       is_foreign = record {
         is_record = h.is_record;
         no_value = λ v is e.
-          let one = (record_code uap).same (record_of (items v)) r [] [] (value_record T uap Is items profile v is) h.is_record (append-nil _ ∙ e ∙ sym (append-nil _)) in
-          other v (reads v is (ap (λ x. x.items) one.0 ∙ sym h.items)) e;
+            let one = (record_code uap).same (record_of (items v)) r [] [] (value_record T uap Is items profile v is) h.is_record (append-nil _ ∙ e ∙ sym (append-nil _)) in
+            other v (reads v is (ap (λ x. x.items) one.0 ∙ sym h.items)) e;
       };
       octets = h.octets;
     }
@@ -76,8 +76,8 @@ module _ (T : Type 0) (uap : Uap) (Is : T → Type 0) (items : T → List Elemen
       record {
         are_values = all_push values v h.are_values b.is_value;
         octets =
-          h.octets ∙ ap (λ x. flat_map (written items) values ++ x) b.octets ∙ sym (append_assoc (flat_map (written items) values) (written items v) (drop next body))
-              ∙ ap (λ x. x ++ drop next body) (sym more);
+            h.octets ∙ ap (λ x. flat_map (written items) values ++ x) b.octets ∙ sym (append_assoc (flat_map (written items) values) (written items v) (drop next body))
+            ∙ ap (λ x. x ++ drop next body) (sym more);
         from_is = omega (arith, h.from_is, b.next_is, ap length more, length-append (flat_map (written items) values) (written items v));
         within = b.within;
       }

@@ -8,6 +8,7 @@ mod line;
 mod octets;
 mod reader;
 mod stamp;
+mod values;
 mod writer;
 
 pub use error::ProfileError;
@@ -15,3 +16,6 @@ pub use line::TrackLine;
 pub use reader::read062;
 pub use stamp::Stamp;
 pub use writer::{TRACK_ROOM, track_record, write_track};
+
+#[cfg(test)]
+mod tests;

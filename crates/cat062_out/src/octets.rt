@@ -15,7 +15,9 @@ const ADR: u8 = 0x80;
 
 // I062/290: the primary field's bits of the ages.
 const PSR: u8 = 0x40;
+
 const SSR: u8 = 0x20;
+
 const MDS: u8 = 0x10;
 
 // I062/500: the primary field's bit of APC, the accuracy of the position.

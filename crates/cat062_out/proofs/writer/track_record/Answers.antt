@@ -14,7 +14,7 @@ returns-clause-octets c =
     c.finish.ensures
     ∙ record_put c.args.stamp.now c.args.line.now c.put.new.self
     (all_put c.args.stamp.now c.args.line.now c.put_stamp.new.writer c.put_motion.new.writer c.put_code.new.writer c.put_address.new.writer c.put_status.new.writer c.put_level.new.writer c.put.new.self
-     c.in_ok-put_stamp.ensures.added c.in_ok-put_motion.ensures.added code address c.in_ok-put_status.ensures.added level last)
+    c.in_ok-put_stamp.ensures.added c.in_ok-put_motion.ensures.added code address c.in_ok-put_status.ensures.added level last)
 
 pub returns-clause-limited : goal.returns-clause-limited
 returns-clause-limited c =
