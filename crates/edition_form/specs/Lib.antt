@@ -7,3 +7,5 @@ pub mod Certificates
 pub mod Prices
 pub mod Datagrams
 pub mod Editions
+pub mod Telling
+pub mod Showing

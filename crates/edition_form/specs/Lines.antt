@@ -1,5 +1,5 @@
 -- The lines of an edition's tracks (ASTERIX Part 9, category 062): those that are shown, and those that are shown no more.
-use Rattle.std.specs.Prelude.{ℕ, ◌-◌, ◌/◌, min, nat_lt, Bool, true, false, not, ◌==◌, ◌&&◌, List, map, ◌++◌, filter, Option, ℤ, pos, unsigned_abs}
+use Rattle.std.specs.Prelude.{ℕ, ◌-◌, ◌/◌, ◌≤◌, min, nat_lt, Bool, true, false, not, ◌==◌, ◌&&◌, List, map, ◌++◌, filter, Option, ℤ, pos, unsigned_abs}
 use Rattle.std.specs.Option.{option_map}
 use Rattle.std.specs.Ordering.{is_eq, nat_cmp, ordering_then}
 use Rattle.std.specs.declared.cmp.Ordering.{Ordering}
@@ -7,7 +7,9 @@ use Rattle.std.specs.List.{list_any}
 use Rattle.std.specs.List.Sorted.{IsStrictlySortedBy}
 use Rattle.trk_base.specs.Keys.{key_cmp}
 use Rattle.trk_base.specs.Numbers.{round, isqrt}
-use Rattle.fixed_imm.specs.Bounds.{time_step}
+use Rattle.trk_base.specs.Limits.{plane_bound}
+use Rattle.fixed_imm.specs.Constants.{velocity_bound}
+use Rattle.fixed_imm.specs.Bounds.{IsCombinedVariance, time_step}
 use Rattle.fixed_imm.specs.Filter.{combined}
 use Rattle.track_life.specs.Tracks.{TrackState}
 use Rattle.cat062_out.specs.Tracks.{TrackLine}
@@ -61,6 +63,12 @@ line_with time t x y = record {
   sx = deviation x.2;
   sy = deviation y.2;
 }
+
+-- the position, the velocity and the variance of an axis are in the filter's bounds
+pub record IsCombined (a : ℤ × ℤ × ℤ) : Type 0 where
+  pub position : unsigned_abs a.0 ≤ plane_bound
+  pub velocity : unsigned_abs a.1 ≤ velocity_bound
+  pub variance : IsCombinedVariance a.2
 
 -- as the filter has it at that time
 unfoldable pub line_of : ℕ → TrackState → TrackLine

@@ -1,16 +1,21 @@
 // How an edition is built.
-ghost use Rattle.std.specs.Prelude.{◌≡◌, ◌<◌, ℕ, List, length, IfOk};
+ghost use Rattle.std.specs.Prelude.{◌≡◌, ◌%◌, length, IfOk};
+ghost use Rattle.trk_base.specs.Numbers.{day};
 ghost use Rattle.edition_form.specs.Pictures.{AreEarlier, HaveOwnNumbers, picture};
 ghost use Rattle.edition_form.specs.Lines.{RiseByNumber};
 ghost use Rattle.edition_form.specs.Datagrams.{ArePictured, lines_in};
 
-use crate::{Built, ShownLine};
+use crate::datagrams::datagrams;
+use crate::picture::shown_lines;
+use crate::radars::radar_lines;
+use crate::{Built, Edition, ShownLine};
 use admission_log::Settings;
+use cat062_out::Stamp;
 use plot_geometry::Bias;
 use price_form::Cert;
 use std::alloc::Global;
 use track_life::Table;
-use trk_base::NoMemory;
+use trk_base::{DAY, NoMemory, Sequence};
 
 /// The edition of what is shown at a time, and the lines of the tracks that it shows.
 ///
@@ -46,5 +51,31 @@ pub fn build(
     ensures shown { IfOk result (λ b. b.shown ≡ lines_in (picture settings.now biases.now table.now services.now time)) }
     ensures rising { IfOk result (λ b. RiseByNumber b.shown) }
 {
-    Err(NoMemory)
+    let shown = shown_lines(alloc, table, &settings.life, time)?;
+    let radars = radar_lines(alloc, settings.radars.as_slice(), biases, services, time)?;
+    let stamp = stamp(settings.sac, settings.sic, settings.service, time);
+    let datagrams = datagrams(alloc, &stamp, number, old, &shown, &radars)?;
+    Ok(Built {
+        edition: Edition {
+            number,
+            cut,
+            before,
+            time,
+            datagrams,
+            certs: Sequence::of(certs),
+        },
+        shown: Sequence::of(shown),
+    })
+}
+
+// Who tells an edition, and at which time of day.
+fn stamp(sac: u8, sic: u8, service: u8, time: u64) -> Stamp
+    ensures { result ≡ record { sac = sac; sic = sic; service = service; tod = time % day } }
+{
+    Stamp {
+        sac,
+        sic,
+        service,
+        tod: (time % DAY) as u32,
+    }
 }
