@@ -8,3 +8,6 @@ pub mod Keyed
 pub mod Problems
 pub mod Components
 pub mod Tracker
+pub mod OneBatch
+pub mod Calls
+pub mod Told

@@ -8,10 +8,18 @@
 //! layers above rest on: a run in parts, a slot without plots, and numbers that no run reads.
 #![tactic(auto)]
 
+mod batches;
+mod certs;
 mod laws;
+mod reaching;
+mod slots;
 
+pub use batches::{Batch, batches_of};
+pub use certs::KeyedCert;
 pub use laws::{
     batch_certificates, component_certificates, empty_batch, expired_twice, keyed_tracks,
     merged_tables, problem_of_batch, resting, run_in_parts, run_in_two_parts, tables_before,
     tracker_laws, two_batches, unread_numbers,
 };
+pub use reaching::{batch_tables, reaches};
+pub use slots::{SlotRan, slot_run, slot_step};
