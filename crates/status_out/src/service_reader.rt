@@ -53,17 +53,14 @@ fn first_line(
     ensures found { IfOk result (λ r. BeginsValue IsLine065 service_items block.now.body.now from r.0 r.1) }
     ensures none { IfRefused result (λ e. BeginsNoValue Cat065 IsLine065 service_items block.now from e) }
 {
+    let at = block.at + from;
     let record = first_record(alloc, Uap::Cat065, block, from)?;
     let Some(line) = line_of(block.body, &record) else {
-        return Err(ProfileError::Profile {
-            at: block.at + from,
-        });
+        return Err(ProfileError::Profile { at });
     };
     let written = service_record(alloc, &line)?;
     if !stand_there(&written, block.body, from, record.next) {
-        return Err(ProfileError::Profile {
-            at: block.at + from,
-        });
+        return Err(ProfileError::Profile { at });
     }
     Ok((line, record.next))
 }

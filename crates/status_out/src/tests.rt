@@ -11,7 +11,10 @@ type RadarRow = (u8, u8, u8, i16, i16, i16, i16);
 
 fn stamp_of(row: StampRow) -> Option<Stamp> {
     let (sac, sic, service, tod) = row;
-    (tod < 11_059_200).then_some(Stamp {
+    if tod >= 11_059_200 {
+        return None;
+    }
+    Some(Stamp {
         sac,
         sic,
         service,
@@ -21,7 +24,10 @@ fn stamp_of(row: StampRow) -> Option<Stamp> {
 
 fn line_of(row: RadarRow) -> Option<RadarLine> {
     let (sac, sic, con, time_ms, gain, range, azimuth) = row;
-    (con <= 3).then_some(RadarLine {
+    if con > 3 {
+        return None;
+    }
+    Some(RadarLine {
         sac,
         sic,
         con,
