@@ -1,4 +1,3 @@
-use Rattle.std.proofs.Common.{refl}
 use Rattle.cat062_out.specs.Tracks.{Stamp, TrackLine}
 use Rattle.cat062_out.specs.TrackRecords.{IsTrack, items_of}
 use Rattle.asterix_frame.specs.declared.tables.Uap.TheVariants.{Cat062}
