@@ -1,22 +1,18 @@
 -- The items of each state of a radar are a record of category 063, and no two states have the same ones.
-use Rattle.std.proofs.Common.{◌≡◌, ◌∙◌, ap, sym, refl, subst, rules, zero, suc, ℕ, ◌+◌, ◌*◌, ◌-◌, ◌^◌, ◌<◌, ◌≤◌, List, [], ◌∷◌, ◌++◌, length, take, drop, arith, Option, Some, None, ℤ, pos, negsuc, FitsSigned, w16}
+use Rattle.std.proofs.Common.{◌≡◌, ◌∙◌, ap, sym, refl, subst, rules, ℕ, ◌+◌, ◌*◌, ◌^◌, ◌<◌, ◌≤◌, List, [], ◌∷◌, length, take, drop, arith, ℤ, pos, negsuc, FitsSigned, w16}
 use Rattle.std.specs.Prelude.{slice_index, IfSome}
 use Rattle.asterix_frame.specs.declared.tables.Uap.{Uap}
 use Rattle.asterix_frame.specs.declared.tables.Uap.TheVariants.{Cat063}
-use Rattle.asterix_frame.specs.declared.tables.ItemFormat.TheVariants.{Fixed, Extended}
+use Rattle.asterix_frame.specs.declared.tables.ItemFormat.TheVariants.{Fixed}
 use Rattle.asterix_frame.specs.Tables.{table_of, time_frn}
 use Rattle.asterix_frame.specs.Items.{item_at}
-use Rattle.asterix_frame.specs.Presence.{fx}
-use Rattle.asterix_frame.specs.Elements.{Element}
 use Rattle.asterix_frame.specs.Values.{big_endian, two_octets, three_octets}
-use Rattle.asterix_frame.specs.DataRecords.{IsDataItem, item_octets, time_in}
+use Rattle.asterix_frame.specs.DataRecords.{IsDataItem, item_octets}
 use Rattle.asterix_frame.specs.Encoding.{AreDataItems}
 use Rattle.asterix_frame.proofs.Written.{two_written, three_written}
 use Rattle.trk_base.specs.Numbers.{day}
-use Rattle.cat062_out.specs.Tracks.{Stamp, IsStamp}
 use Rattle.cat062_out.specs.TrackRecords.{two_signed, complement}
 use Rattle.cat062_out.proofs.Profiles.{IsProfile}
-use Rattle.status_out.specs.RadarLines.{RadarLine, IsRadarLine}
 use Rattle.status_out.specs.SensorRecords.{Message, IsMessage, sensor_items}
 use Rattle.status_out.proofs.SensorReading.{some_same}
 

@@ -1,11 +1,10 @@
 -- The items of what is told of the service are a record of category 065, and no two lines have the same ones.
-use Rattle.std.proofs.Common.{◌≡◌, ◌∙◌, ap, sym, refl, rules, ℕ, ◌*◌, ◌<◌, ◌≤◌, List, [], ◌∷◌, arith, Option, Some}
+use Rattle.std.proofs.Common.{◌≡◌, ◌∙◌, ap, sym, refl, rules, ◌*◌, arith}
 use Rattle.std.specs.Prelude.{slice_index}
 use Rattle.asterix_frame.specs.declared.tables.Uap.TheVariants.{Cat065}
 use Rattle.asterix_frame.specs.DataRecords.{item_octets, source_of, time_of}
 use Rattle.asterix_frame.specs.Values.{one_octet}
 use Rattle.asterix_frame.specs.Encoding.{AreDataItems}
-use Rattle.cat062_out.specs.Tracks.{Stamp}
 use Rattle.cat062_out.proofs.Profiles.{IsProfile}
 use Rattle.status_out.specs.declared.service_line.Line065.{Line065}
 use Rattle.status_out.specs.declared.service_line.Line065.TheVariants.{Status, End}

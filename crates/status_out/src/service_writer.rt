@@ -26,6 +26,9 @@ pub(crate) const STATUS_KIND: u8 = 1;
 // The type of a message that ends a batch.
 pub(crate) const END_KIND: u8 = 2;
 
+// The octets of a record in the making: four for the FSPEC, and those of its items.
+const RECORD_ROOM: usize = 12;
+
 /// The block of the state of the service: `nogo` is 0 where it is operational, and 1 where it is
 /// degraded.
 pub fn write065_status(alloc: Global, stamp: &Stamp, nogo: u8) -> Result<Vec<u8>, NoMemory>
@@ -64,12 +67,12 @@ pub(crate) fn service_record(alloc: Global, line: &Line065) -> Result<Vec<u8>, N
 {
     match line {
         Line065::Status(stamp, nogo) => {
-            let mut record = begun(alloc, stamp, STATUS_KIND)?;
+            let mut record = begin_record(alloc, stamp, STATUS_KIND)?;
             record.put(STATUS, &[64 * *nogo])?;
             Ok(record.finish())
         }
         Line065::End(stamp, batch) => {
-            let mut record = begun(alloc, stamp, END_KIND)?;
+            let mut record = begin_record(alloc, stamp, END_KIND)?;
             record.put(BATCH, &[*batch])?;
             Ok(record.finish())
         }
@@ -77,7 +80,7 @@ pub(crate) fn service_record(alloc: Global, line: &Line065) -> Result<Vec<u8>, N
 }
 
 // A record with the items that both types of messages have.
-fn begun(alloc: Global, stamp: &Stamp, kind: u8) -> Result<RecordWriter, NoMemory>
+fn begin_record(alloc: Global, stamp: &Stamp, kind: u8) -> Result<RecordWriter, NoMemory>
     ensures { IfOk result (λ w. w ≡ common_items stamp.now kind) }
 {
     let [_, high, middle, low] = stamp.tod.to_be_bytes();
@@ -88,6 +91,3 @@ fn begun(alloc: Global, stamp: &Stamp, kind: u8) -> Result<RecordWriter, NoMemor
     record.put(TIME, &[high, middle, low])?;
     Ok(record)
 }
-
-// The octets of a record in the making: four for the FSPEC, and those of its items.
-const RECORD_ROOM: usize = 12;

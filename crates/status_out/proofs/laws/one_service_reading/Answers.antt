@@ -1,4 +1,4 @@
-use Rattle.std.proofs.Common.{◌≡◌, refl, [], ◌∷◌}
+use Rattle.std.proofs.Common.{refl, [], ◌∷◌}
 use Rattle.std.specs.List.{concat}
 use Rattle.asterix_frame.specs.declared.tables.Uap.TheVariants.{Cat065}
 use Rattle.cat062_out.proofs.Profiles.{one_list, one_refusal, not_both}
