@@ -1,5 +1,5 @@
 // What holds of the records of tracks, whoever writes or reads them.
-ghost use Rattle.std.specs.Prelude.{◌≡◌, ◌≤◌, ◌++◌, ℕ, List, length};
+ghost use Rattle.std.specs.Prelude.{◌≡◌, ◌⊎◌, ◌++◌, ℕ, List};
 ghost use Rattle.asterix_frame.specs.declared.block.Block.{Block};
 ghost use Rattle.asterix_frame.specs.declared.tables.Uap.TheVariants.{Cat062};
 ghost use Rattle.asterix_frame.specs.Encoding.{record_of};
@@ -20,8 +20,9 @@ pub fn one_track()
     ensures room { TRACK_ROOM ≡ track_limit }
 {}
 
-/// A block of category 62 has one reading at most: as records of tracks, or as a first refusal.
+/// A block of category 62 has exactly one reading: as records of tracks, or as a first refusal.
 pub fn one_reading()
+    ensures some { (block : Block) → ((ts : List (Stamp × TrackLine)) × AreWritten IsTrack items_of block.body.now ts) ⊎ ((e : ProfileError) × IsRefusal Cat062 IsTrack items_of block e) }
     ensures one_list { (body : List ℕ) (ts us : List (Stamp × TrackLine)) → AreWritten IsTrack items_of body ts → AreWritten IsTrack items_of body us → ts ≡ us }
     ensures one_refusal { (block : Block) (e e' : ProfileError) → IsRefusal Cat062 IsTrack items_of block e → IsRefusal Cat062 IsTrack items_of block e' → e ≡ e' }
     ensures not_both { (block : Block) (ts : List (Stamp × TrackLine)) (e : ProfileError) → AreWritten IsTrack items_of block.body.now ts → IsRefusal Cat062 IsTrack items_of block e → ⊥ }
