@@ -8,7 +8,7 @@ ghost use Rattle.cat062_out.specs.declared.error.ProfileError.{ProfileError};
 ghost use Rattle.cat062_out.specs.Answers.{AnswersWith, RefusesWith, IfRefused};
 ghost use Rattle.cat062_out.specs.Profile.{BeginsValue, BeginsNoValue};
 ghost use Rattle.status_out.specs.declared.service_line.Line065.{Line065};
-ghost use Rattle.status_out.specs.declared.service_line.Line065.TheVariants as lines;
+ghost use Rattle.status_out.specs.declared.service_line.Line065.TheVariants as kinds;
 ghost use Rattle.status_out.specs.ServiceRecords.{IsLine065, AreServiceMessages, IsServiceRefusal, service_items};
 
 use crate::Line065;
@@ -95,7 +95,7 @@ fn line_of(body: &[u8], items: &ItemSpans) -> Option<Line065>
 // The state of the service, as I065/040 tells it.
 fn status_line(stamp: Stamp, octet: u8) -> Option<Line065>
     ensures is_line { IfSome result IsLine065 }
-    ensures read { (nogo : ℕ) → nogo ≤ 1 → octet ≡ 64 * nogo → result ≡ Some (lines.Status stamp nogo) }
+    ensures read { (nogo : ℕ) → nogo ≤ 1 → octet ≡ 64 * nogo → result ≡ Some (kinds.Status stamp nogo) }
 {
     let nogo = octet / 64;
     if nogo > 1 {

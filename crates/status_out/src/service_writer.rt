@@ -1,7 +1,7 @@
 // The state of the service and the end of a batch, written.
 ghost use Rattle.std.specs.Prelude.{◌≡◌, ◌≤◌, ◌<◌, length, IfOk};
 ghost use Rattle.asterix_frame.specs.Packing.{block_limit};
-ghost use Rattle.status_out.specs.declared.service_line.Line065.TheVariants as lines;
+ghost use Rattle.status_out.specs.declared.service_line.Line065.TheVariants as kinds;
 ghost use Rattle.status_out.specs.ServiceRecords.{HasState, common_items, service_block, service_record};
 
 use crate::Line065;
@@ -33,7 +33,7 @@ const RECORD_ROOM: usize = 12;
 /// degraded.
 pub fn write065_status(alloc: Global, stamp: &Stamp, nogo: u8) -> Result<Vec<u8>, NoMemory>
     requires { nogo ≤ 1 }
-    ensures block { IfOk result (λ v. v.items ≡ service_block (lines.Status stamp.now nogo)) }
+    ensures block { IfOk result (λ v. v.items ≡ service_block (kinds.Status stamp.now nogo)) }
     ensures within { IfOk result (λ v. length v.items ≤ block_limit) }
 {
     block_of(alloc, &Line065::Status(*stamp, nogo))
@@ -41,7 +41,7 @@ pub fn write065_status(alloc: Global, stamp: &Stamp, nogo: u8) -> Result<Vec<u8>
 
 /// The block of the end of a batch, with its number.
 pub fn write065_end(alloc: Global, stamp: &Stamp, batch: u8) -> Result<Vec<u8>, NoMemory>
-    ensures block { IfOk result (λ v. v.items ≡ service_block (lines.End stamp.now batch)) }
+    ensures block { IfOk result (λ v. v.items ≡ service_block (kinds.End stamp.now batch)) }
     ensures within { IfOk result (λ v. length v.items ≤ block_limit) }
 {
     block_of(alloc, &Line065::End(*stamp, batch))
