@@ -1,4 +1,4 @@
-use Rattle.std.proofs.Common.{◌∙◌, ap, rules, ℕ, ℤ, Option}
+use Rattle.std.proofs.Common.{◌∙◌, ap, rules, ℤ}
 use Rattle.std.specs.Prelude.{FitsSigned}
 use Rattle.std.specs.Int.{w16, w32}
 use Rattle.std.proofs.lemmas.Int.{to_z-of_z}
