@@ -215,6 +215,7 @@ const ROWS: [Row; 4] = [
     },
 ];
 
+#[tactic(auto, using(crate::proofs::Climbing::no_lines))]
 // Whether the edition of a row has its datagrams.
 fn is_told(alloc: Global, row: &Row) -> Result<bool, NoMemory>
     requires { 4608128 ≤ row.now.time }
