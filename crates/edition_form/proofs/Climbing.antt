@@ -135,3 +135,18 @@ pub rises : (lines : List ShownLine) → Climb lines → RiseByNumber lines
 unfolding IsStrictlySortedBy
 rises [] h = tt
 rises (s ∷ ss) h = (all_weaker (λ t. s.line.number < t.line.number) (λ t. shown_cmp s t ≡ Less) (λ t k. lower_first s t k) ss h.0, rises ss h.1)
+
+-- ---- one of them, and none
+
+pub one_number : (t : TrackState) → HaveOwnNumbers (t ∷ [])
+unfolding IsDistinct
+one_number t =
+    let at : (o : Option ℕ) → t.number ≡ o → HaveOwnNumbers (t ∷ []) = λ o. elim o as (λ o. t.number ≡ o → HaveOwnNumbers (t ∷ [])) [
+      | Some n ↦ λ e. let k : held (t ∷ []) ≡ n ∷ [] = rw e refl in subst (IsDistinct ◌==◌) (sym k) (tt, tt)
+      | None ↦ λ e. let k : held (t ∷ []) ≡ [] = rw e refl in subst (IsDistinct ◌==◌) (sym k) tt
+    ] in
+    at t.number refl
+
+pub no_lines : RiseByNumber []
+unfolding IsStrictlySortedBy
+no_lines = tt

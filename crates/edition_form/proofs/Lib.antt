@@ -5,4 +5,6 @@ mod Merging
 mod Stepping
 mod Shown
 mod Climbing
+mod Packable
+mod TrackSizes
 mod Worked

@@ -105,11 +105,6 @@ lines_sorted life time table xs ys e up stable =
 
 -- ---- the time since a track's last plot
 
-pub all_at : {X : Type 0} (P : X → Type 0) (xs : List X) (i : ℕ) (d : X) → AllByRecursion P xs → i < length xs → P (get_or xs i d)
-all_at P [] i d h inside = absurd (omega (arith, inside))
-all_at P (x ∷ xs) zero d h inside = h.0
-all_at P (x ∷ xs) (suc i) d h inside = all_at P xs i d h.1 (omega (arith, inside))
-
 keep_limit : (life : LifeSettings) (confirmed : Bool) → keep life confirmed ≤ 60
 keep_limit life true = life.keep_confirmed_range.1
 keep_limit life false = life.keep_tentative_range.1

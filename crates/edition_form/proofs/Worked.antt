@@ -254,7 +254,7 @@ shown_is =
 -- ---- the next edition, half a minute later: the track is gone
 
 abbrev half_a_minute : History
-half_a_minute = log_of (delivery ∷ events.Tick 4608128 ∷ events.Tick 4612000 ∷ [])
+half_a_minute = log_of (delivery ∷ events.Tick 4608128 ∷ events.Tick 4611968 ∷ [])
 
 later_plots : plots_of settings half_a_minute ≡ plot ∷ []
 unfolding isqrt slant_range azimuth height_above ground_range cross_range_sigma squared_sine axis_variance plane_plot right_angle_halved turns sine_cosine
@@ -264,12 +264,12 @@ later_fold : before (step_tracks life) slot_of_plot [] (plot ∷ []) 72062 ≡ t
 unfolding before track batch_step table_at run begun tried assigned unexpired first_best least_of
 later_fold = refl
 
-expired : shown_tracks life 4612000 (track ∷ []) ≡ []
+expired : shown_tracks life 4611968 (track ∷ []) ≡ []
 unfolding unexpired track
 expired = refl
 
 none_shown : shown_of settings half_a_minute ≡ []
-none_shown = ap (λ plots. lines_of 4612000 (shown_tracks life 4612000 (before (step_tracks life) slot_of_plot [] plots 72062))) later_plots ∙ (ap (λ tracks. lines_of 4612000 (shown_tracks life 4612000 tracks)) later_fold ∙ ap (lines_of 4612000) expired)
+none_shown = ap (λ plots. lines_of 4611968 (shown_tracks life 4611968 (before (step_tracks life) slot_of_plot [] plots 72062))) later_plots ∙ (ap (λ tracks. lines_of 4611968 (shown_tracks life 4611968 tracks)) later_fold ∙ ap (lines_of 4611968) expired)
 
 -- against the first edition, whose cut is 2
 shown_before : shown_at settings half_a_minute 2 ≡ shown ∷ []
