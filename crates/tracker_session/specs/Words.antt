@@ -1,61 +1,43 @@
--- The words of a command line that are a command.
-use Rattle.std.specs.Prelude.{◌≡◌, ◌≢◌, ◌⊎◌, ℕ, List, [], ◌∷◌, ◌++◌, codes, map, string_bytes, String}
+-- The words of a command line, as lines of commands.
+use Rattle.std.specs.Prelude.{◌≡◌, ◌==◌, ⊤, ℕ, nat_eq, Bool, not, ◌&&◌, length, Result, Ok, Err, List, [], ◌∷◌, codes, map, string_bytes, String, if◌then◌else◌}
+use Rattle.std.specs.List.{starts_with}
+use Rattle.std.specs.Str.{bytes_eq}
 use Rattle.std.specs.declared.alloc.Global.{Global}
 use Rattle.tracker_session.specs.declared.words.Command.{Command}
-use Rattle.tracker_session.specs.declared.words.Command.TheVariants.{Replay, Check}
+use Rattle.tracker_session.specs.declared.words.Command.TheVariants as commands
+use Rattle.tracker_session.specs.declared.words.WordsError.{WordsError}
+use Rattle.tracker_session.specs.declared.words.WordsError.TheVariants as errors
 
 -- the octets of each word
 abbrev pub texts : List (String Global) → List (List ℕ)
 texts words = map (λ word. string_bytes word) words
 
+-- a command with its words, or other words
+pub data Line : Type 0 where
+  -- the names of settings, input, output and prices, and the number of workers
+  replay : List ℕ → List ℕ → List ℕ → List ℕ → ℕ → Line
+  -- the name of the prices
+  check : List ℕ → Line
+  other : Line
+
 -- a name isn't empty and doesn't begin with two dashes
-pub record IsName (word : List ℕ) : Type 0 where
-  pub some : word ≢ []
-  pub plain : (rest : List ℕ) → word ≢ codes "--" ++ rest
+abbrev pub is_name : List ℕ → Bool
+is_name word = not (length word == 0) && not (starts_with nat_eq word (codes "--"))
 
--- the words are `replay` and the names of settings, input, output and prices
-pub record IsReplay (words : List (List ℕ)) (settings input output : List ℕ) : Type 0 where
-  pub prices : List ℕ
-  pub whole : words ≡ codes "replay" ∷ settings ∷ input ∷ output ∷ prices ∷ []
-  pub settings_name : IsName settings
-  pub input_name : IsName input
-  pub output_name : IsName output
-  pub prices_name : IsName prices
+-- `check` and a name, or `replay` and four names, for one worker
+abbrev pub line_of : List (List ℕ) → Line
+line_of (command ∷ prices ∷ []) = if bytes_eq command (codes "check") && is_name prices then check prices else other
+line_of (command ∷ settings ∷ input ∷ output ∷ prices ∷ []) =
+    if bytes_eq command (codes "replay") && is_name settings && is_name input && is_name output && is_name prices then replay settings input output prices 1 else other
+line_of words = other
 
-abbrev pub AreReplay : List (List ℕ) → Type 0
-AreReplay words = (settings : List ℕ) × (input : List ℕ) × (output : List ℕ) × IsReplay words settings input output
+-- the line of a command
+abbrev pub line_for : Command → Line
+line_for (commands.Replay settings input output prices workers) = replay (string_bytes settings) (string_bytes input) (string_bytes output) (string_bytes prices) workers
+line_for (commands.Check prices) = check (string_bytes prices)
 
--- the words are `check` and the name of a price file
-pub record IsCheck (words : List (List ℕ)) (prices : List ℕ) : Type 0 where
-  pub whole : words ≡ codes "check" ∷ prices ∷ []
-  pub prices_name : IsName prices
-
-abbrev pub AreCheck : List (List ℕ) → Type 0
-AreCheck words = (prices : List ℕ) × IsCheck words prices
-
--- the words of a command
-abbrev pub AreCommand : List (List ℕ) → Type 0
-AreCommand words = AreReplay words ⊎ AreCheck words
-
--- the words are those of a replay with these names, which has one worker
-pub record IsReplayOf (words : List (List ℕ)) (settings input output prices : List ℕ) (workers : ℕ) : Type 0 where
-  pub replay : IsReplay words settings input output
-  pub prices_are : replay.prices ≡ prices
-  pub one_worker : workers ≡ 1
-
--- the command is a replay of these names, with one worker
-pub record AreNames (settings input output prices settings' input' output' prices' : List ℕ) (workers : ℕ) : Type 0 where
-  pub settings_are : settings' ≡ settings
-  pub input_is : input' ≡ input
-  pub output_is : output' ≡ output
-  pub prices_are : prices' ≡ prices
-  pub one_worker : workers ≡ 1
-
-abbrev pub HasNames : List ℕ → List ℕ → List ℕ → List ℕ → Command → Type 0
-HasNames settings input output prices (Replay settings' input' output' prices' workers) = AreNames settings input output prices (string_bytes settings') (string_bytes input') (string_bytes output') (string_bytes prices') workers
-HasNames settings input output prices (Check prices') = ⊥
-
--- the words are this command's
-abbrev pub IsCommand : List (List ℕ) → Command → Type 0
-IsCommand words (Replay settings input output prices workers) = IsReplayOf words (string_bytes settings) (string_bytes input) (string_bytes output) (string_bytes prices) workers
-IsCommand words (Check prices) = IsCheck words (string_bytes prices)
+-- the command is that of the words; or they are none; or memory is wanting
+abbrev pub Parsed : List (List ℕ) → Result Command WordsError → Type 0
+Parsed words (Ok command) = line_of words ≡ line_for command
+Parsed words (Err errors.Usage) = line_of words ≡ other
+Parsed words (Err errors.NoMemory) = ⊤

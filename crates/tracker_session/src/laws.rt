@@ -1,5 +1,5 @@
 // Laws of the definitions that the top call's clauses cite.
-ghost use Rattle.std.specs.Prelude.{◌≡◌, ◌<◌, ◌-◌, ℕ, List, All, Option, count_by};
+ghost use Rattle.std.specs.Prelude.{◌≡◌, ◌<◌, ◌≤◌, ◌-◌, ℕ, List, All, Option, Some, count_by, length, take};
 ghost use Rattle.admission_log.specs.declared.settings.Settings.{Settings};
 ghost use Rattle.recording.specs.declared.header.Header.{Header};
 ghost use Rattle.recording.specs.Items.{Item};
@@ -8,8 +8,9 @@ ghost use Rattle.tracker_session.specs.Inputs.{HasInput, IsInput};
 ghost use Rattle.admission_log.specs.Histories.{History};
 ghost use Rattle.tracker_session.specs.Counting.{is_datagram, is_delivery};
 ghost use Rattle.tracker_session.specs.Faulty.{HaveFaults};
+ghost use Rattle.tracker_session.specs.ReplayGives.{ReplaysPartly};
 ghost use Rattle.tracker_session.specs.Replay.{HasReplay, IsReplayLog, Replays};
-ghost use Rattle.tracker_session.specs.declared.screen.Counts.{Counts};
+ghost use Rattle.tracker_session.specs.declared.counts.Counts.{Counts};
 
 /// An input has exactly one reading, whether or not it passes the limit.
 pub fn one_input()
@@ -21,6 +22,11 @@ pub fn one_input()
 pub fn one_replay()
     ensures some { (settings : Settings) (octets : List ℕ) → All (λ octet. octet < 256) octets → HasReplay settings octets }
     ensures one { (settings : Settings) (octets a b : List ℕ) (c d : Counts) (f g : Option ℕ) → Replays settings octets a c f → Replays settings octets b d g → (a ≡ b) × (c ≡ d) × (f ≡ g) }
+{}
+
+/// What was written where a replay broke off is a prefix of its output.
+pub fn front_of_replay()
+    ensures { (settings : Settings) (octets part output : List ℕ) (counts : Counts) (fault : Option ℕ) → ReplaysPartly settings octets part → Replays settings octets output counts fault → (n : ℕ) × (n ≤ length output) × (part ≡ take n output) }
 {}
 
 /// The datagrams of a replay that aren't in its log, which are counted as malformed, are those with a fault.

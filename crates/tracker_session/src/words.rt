@@ -1,8 +1,8 @@
 // The words of the command line.
-ghost use Rattle.std.specs.Prelude.{◌∷◌, [], IfOk, IfSome, IsErrOf, IsTrue};
-ghost use Rattle.tracker_session.specs.Words.{AreCommand, HasNames, IsCommand, IsName, texts};
+ghost use Rattle.std.specs.Prelude.{◌≡◌, ◌∷◌, []};
+ghost use Rattle.tracker_session.specs.Words.{Parsed, is_name, texts};
 
-use std::alloc::Global;
+use std::alloc::{AllocError, Global};
 
 /// A command, by its words.
 #[derive(Debug, PartialEq, Eq, Drop)]
@@ -36,11 +36,14 @@ pub enum WordsError {
     NoMemory,
 }
 
-fn is_name(word: &str) -> bool
-    ensures yes { IsTrue result → IsName word.now }
-    ensures no { IsName word.now → IsTrue result }
-{
-    !matches!(word.as_bytes(), [] | [b'-', b'-', ..])
+impl From<AllocError> for WordsError {
+    ghost use Rattle.tracker_session.specs.declared.words.WordsError.TheVariants.{NoMemory};
+
+    ghost from_gives = { λ _ e. e ≡ NoMemory };
+
+    fn from(_error: AllocError) -> WordsError {
+        WordsError::NoMemory
+    }
 }
 
 /// The command that the words are: `replay` and four names, or `check` and one. A name isn't empty and
@@ -48,8 +51,7 @@ fn is_name(word: &str) -> bool
 ///
 /// `Usage` comes exactly for other words.
 pub fn parse_words(alloc: Global, words: &[String]) -> Result<Command, WordsError>
-    ensures command { IfOk result (λ command. IsCommand (texts words.now) command) }
-    ensures usage { IsErrOf result WordsError.Usage → AreCommand (texts words.now) → ⊥ }
+    ensures { Parsed (texts words.now) result }
 {
     match words {
         [command, prices] => parse_check(alloc, command.as_str(), prices.as_str()),
@@ -65,18 +67,22 @@ pub fn parse_words(alloc: Global, words: &[String]) -> Result<Command, WordsErro
     }
 }
 
+// Whether a word is a name.
+fn is_name(word: &str) -> bool
+    ensures { result ≡ is_name word.now }
+{
+    !word.is_empty() && !word.as_bytes().starts_with(b"--")
+}
+
 // The command of two words.
 fn parse_check(alloc: Global, command: &str, prices: &str) -> Result<Command, WordsError>
-    ensures command { IfOk result (λ it. IsCommand (command.now ∷ prices.now ∷ []) it) }
-    ensures usage { IsErrOf result WordsError.Usage → AreCommand (command.now ∷ prices.now ∷ []) → ⊥ }
+    ensures { Parsed (command.now ∷ prices.now ∷ []) result }
 {
     if command != "check" || !is_name(prices) {
         return Err(WordsError::Usage);
     }
-    match String::from_str(alloc, prices) {
-        Ok(prices) => Ok(Command::Check { prices }),
-        Err(_) => Err(WordsError::NoMemory),
-    }
+    let prices = String::from_str(alloc, prices)?;
+    Ok(Command::Check { prices })
 }
 
 // The command of five words.
@@ -88,47 +94,21 @@ fn parse_replay(
     output: &str,
     prices: &str,
 ) -> Result<Command, WordsError>
-    ensures command { IfOk result (λ it. IsCommand (command.now ∷ settings.now ∷ input.now ∷ output.now ∷ prices.now ∷ []) it) }
-    ensures usage { IsErrOf result WordsError.Usage → AreCommand (command.now ∷ settings.now ∷ input.now ∷ output.now ∷ prices.now ∷ []) → ⊥ }
+    ensures { Parsed (command.now ∷ settings.now ∷ input.now ∷ output.now ∷ prices.now ∷ []) result }
 {
-    if command == "replay"
-        && is_name(settings)
-        && is_name(input)
-        && is_name(output)
-        && is_name(prices)
+    if command != "replay"
+        || !is_name(settings)
+        || !is_name(input)
+        || !is_name(output)
+        || !is_name(prices)
     {
-        match replay_of(alloc, settings, input, output, prices) {
-            Some(command) => Ok(command),
-            None => Err(WordsError::NoMemory),
-        }
-    } else {
-        Err(WordsError::Usage)
+        return Err(WordsError::Usage);
     }
-}
-
-// The replay with these names, or none where memory is wanting.
-fn replay_of(
-    alloc: Global,
-    settings: &str,
-    input: &str,
-    output: &str,
-    prices: &str,
-) -> Option<Command>
-    ensures { IfSome result (λ it. HasNames settings.now input.now output.now prices.now it) }
-{
-    let Ok(settings) = String::from_str(alloc, settings) else {
-        return None;
-    };
-    let Ok(input) = String::from_str(alloc, input) else {
-        return None;
-    };
-    let Ok(output) = String::from_str(alloc, output) else {
-        return None;
-    };
-    let Ok(prices) = String::from_str(alloc, prices) else {
-        return None;
-    };
-    Some(Command::Replay {
+    let settings = String::from_str(alloc, settings)?;
+    let input = String::from_str(alloc, input)?;
+    let output = String::from_str(alloc, output)?;
+    let prices = String::from_str(alloc, prices)?;
+    Ok(Command::Replay {
         settings,
         input,
         output,
