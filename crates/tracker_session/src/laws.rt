@@ -1,5 +1,9 @@
 // Laws of the definitions that the top call's clauses cite.
 ghost use Rattle.std.specs.Prelude.{◌≡◌, ◌<◌, ◌≤◌, ◌-◌, ℕ, List, All, Option, Some, count_by, length, take};
+ghost use Rattle.io_traits.specs.declared.host.Place.{Place};
+ghost use Rattle.session_script.specs.Scripts.{Binding, End};
+ghost use Rattle.tracker_session.specs.Commands.{CommandGives};
+ghost use Rattle.tracker_session.specs.Words.{Line};
 ghost use Rattle.admission_log.specs.declared.settings.Settings.{Settings};
 ghost use Rattle.recording.specs.declared.header.Header.{Header};
 ghost use Rattle.recording.specs.Items.{Item};
@@ -38,4 +42,9 @@ pub fn malformed_datagrams()
 pub fn one_check()
     ensures some { (octets : List ℕ) → All (λ octet. octet < 256) octets → HasVerdict octets }
     ensures one { (octets : List ℕ) (v w : Verdict) → Checks octets v → Checks octets w → v ≡ w }
+{}
+
+/// On what the places hold a line of words has one end, binds the same places, and Output gets one thing.
+pub fn one_end()
+    ensures { (line : Line) (held : Place → List ℕ) (bound bound' : List Binding) (gets gets' : Place → List ℕ) (end end' : End) → CommandGives line (λ p octets. octets ≡ held p) bound gets (Some end) → CommandGives line (λ p octets. octets ≡ held p) bound' gets' (Some end') → (end ≡ end') × (bound ≡ bound') × (gets Place.Output ≡ gets' Place.Output) }
 {}

@@ -11,7 +11,7 @@ mod taking;
 mod words;
 
 pub use batch::run_batch;
-pub use laws::{front_of_replay, malformed_datagrams, one_check, one_input, one_replay};
+pub use laws::{front_of_replay, malformed_datagrams, one_check, one_end, one_input, one_replay};
 pub use session_script::{Spot, Status};
 pub use words::{Command, WordsError, parse_words};
 
