@@ -1,12 +1,11 @@
 -- What a run comes to that follows a script.
 use Rattle.std.proofs.Common.{◌≡◌, ◌≢◌, ◌≤◌, ◌∙◌, ◌⊎◌, inl, inr, ap, refl, sym, subst, arith, ℕ, ◌+◌, List, [], ◌∷◌, ◌++◌, length, take, length-append, append-nil, le_refl, le_trans, Bool, true, false}
-use Rattle.std.specs.Prelude.{Option, Some, None, IsTrue, IsFalse, Ok, Err, ⊤, if◌then◌else◌, option_map}
+use Rattle.std.specs.Prelude.{Option, Some, None, IsTrue, IsFalse, Ok, Err, if◌then◌else◌, option_map}
 use Rattle.std.specs.Io.KnownBytes.{Appends, Consumes}
 use Rattle.std.proofs.lemmas.List.{take_all, take-append-le}
 use Rattle.std.proofs.lemmas.Bool.{cases_lt}
-use Rattle.io_traits.specs.Faults.{Rose}
 use Rattle.io_traits.specs.Host.{HostState, IsBoundFor, IsEmpty}
-use Rattle.io_traits.specs.Places.{Got, GotPrefix, Has, HasFailed, NoneFailed, WasRead, place_limit}
+use Rattle.io_traits.specs.Places.{Got, Has, HasFailed, NoneFailed, WasRead, place_limit}
 use Rattle.io_traits.specs.Touching.{Touches, is_in, same_place}
 use Rattle.io_traits.specs.declared.host.Place.{Place}
 use Rattle.io_traits.specs.declared.host.Place.TheVariants as places
@@ -15,11 +14,11 @@ use Rattle.io_traits.specs.declared.host.Way.TheVariants as ways
 use Rattle.io_traits.proofs.Known.{Appends_nothing}
 use Rattle.io_traits.proofs.Faulting.{Rose_until}
 use Rattle.io_traits.proofs.Places.{or_false, same_or_not}
-use Rattle.session_script.specs.Ends.{AllBound, AllPassed, ArePassed, Binds, BrokeOff, ComesTo, Ended, EndsSo, FilesKept, IsForetold, MayHold, OthersPassed, Passed, TellsReading, places_of, read_in, written_in}
+use Rattle.session_script.specs.Ends.{AllBound, AllPassed, ArePassed, BrokeOff, ComesTo, Ended, EndsSo, FilesKept, IsForetold, MayHold, OthersPassed, Passed, TellsReading, places_of, read_in, written_in}
 use Rattle.session_script.specs.Scripts.{Binding, Breaks, End, Follows, GaveUp, Gives, Script, reads, opens, writes, picks, ends, piece_for, read_of}
 use Rattle.session_script.specs.Screen.{status_line}
-use Rattle.session_script.specs.Steps.{IsFresh, OpeningBroke, PlaceOpened, PlaceRead, PlaceWritten, ReadingBroke, WritingBroke}
-use Rattle.session_script.specs.Telling.{Says, Told}
+use Rattle.session_script.specs.Steps.{OpeningBroke, PlaceOpened, PlaceRead, PlaceWritten, ReadingBroke, WritingBroke}
+use Rattle.session_script.specs.Telling.{Says}
 use Rattle.session_script.specs.declared.status.Status.{Status}
 use Rattle.session_script.specs.declared.status.Status.TheVariants.{Memory}
 use Rattle.session_script.proofs.Bindings.{AllFresh, apart_bound, out_places, writes_among}

@@ -1,7 +1,6 @@
 -- What a run of some steps made of the places, and one run after another.
-use Rattle.std.proofs.Common.{◌≡◌, ◌≤◌, ◌∙◌, ◌⊎◌, inl, inr, ap, refl, sym, subst, ℕ, List, [], ◌∷◌, ◌++◌, append_assoc, le_refl, le_trans}
-use Rattle.std.specs.Prelude.{Option, Some, None, IsTrue, IsFalse, Ok, Err, ⊤, option_map}
-use Rattle.std.specs.Io.KnownBytes.{Appends}
+use Rattle.std.proofs.Common.{◌≡◌, ◌≤◌, ◌∙◌, ◌⊎◌, inl, inr, ap, sym, subst, ℕ, List, [], ◌∷◌, ◌++◌, append_assoc, le_trans}
+use Rattle.std.specs.Prelude.{Option, Some, None, IsTrue, IsFalse, Ok, Err, option_map}
 use Rattle.io_traits.specs.Host.{HostState, IsBoundFor, IsEmpty}
 use Rattle.io_traits.specs.Places.{Got, HasFailed, NoneFailed}
 use Rattle.io_traits.specs.Touching.{is_in}
@@ -92,8 +91,7 @@ never_open name b e f = ways_differ (subst (λ (x : Option (Way × List ℕ)). o
 passed_on : (made bound : List Binding) (old mid new : HostState) → AllBound made mid → AllFresh bound mid → Frame bound mid new → AllPassed made old mid → AllPassed made old new
 passed_on [] bound old mid new all fresh frame h = tt
 passed_on ((q, ways.Read, name) ∷ rest) bound old mid new all fresh frame h =
-    let out = apart_fresh bound q (ways.Read, name) mid fresh all.0 in
-    (
+    let out = apart_fresh bound q (ways.Read, name) mid fresh all.0 in (
       (frame.faults q out (never_open name (mid.bound q) all.0) ∙ h.0.0, λ octets has short. subst (λ (o : Option (List ℕ)). IsEmpty o) (sym (frame.left q (reads_among bound q out))) (h.0.1 octets has short)),
       passed_on rest bound old mid new all.1 fresh frame h.1,
     )

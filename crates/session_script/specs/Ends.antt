@@ -5,7 +5,6 @@ use Rattle.io_traits.specs.Places.{Got, Has, HasFailed, place_limit}
 use Rattle.io_traits.specs.Touching.{Touches, is_in}
 use Rattle.io_traits.specs.declared.host.Place.{Place}
 use Rattle.io_traits.specs.declared.host.Place.TheVariants as places
-use Rattle.io_traits.specs.declared.host.Way.{Way}
 use Rattle.io_traits.specs.declared.host.Way.TheVariants as ways
 use Rattle.session_script.specs.Screen.{status_line}
 use Rattle.session_script.specs.Scripts.{Binding, End, Follows, Script}

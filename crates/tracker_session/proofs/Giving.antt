@@ -1,5 +1,5 @@
 -- What the script of a replay gives, by what a replay is.
-use Rattle.std.proofs.Common.{◌≡◌, ◌≢◌, ◌≤◌, ◌∙◌, ◌⊎◌, inl, inr, ap, refl, sym, subst, arith, ℕ, suc, ◌+◌, List, [], ◌∷◌, ◌++◌, length, take, drop, length-append, append-nil, append_assoc, Bool, true, false}
+use Rattle.std.proofs.Common.{◌≡◌, ◌≢◌, ◌≤◌, ◌∙◌, ◌⊎◌, inl, inr, ap, refl, sym, subst, arith, ℕ, suc, ◌+◌, List, [], ◌∷◌, ◌++◌, length, take, length-append, append-nil, append_assoc, Bool, true, false}
 use Rattle.std.specs.Prelude.{Option, Some, None, Ok, Err, Result, if◌then◌else◌}
 use Rattle.std.proofs.Math.Seq.{take-add}
 use Rattle.std.proofs.lemmas.List.{drop_at, take_all, take_at}
@@ -7,31 +7,26 @@ use Rattle.io_traits.specs.Touching.{same_place}
 use Rattle.io_traits.specs.declared.host.Place.{Place}
 use Rattle.io_traits.specs.declared.host.Place.TheVariants as places
 use Rattle.io_traits.specs.declared.host.Way.TheVariants as ways
-use Rattle.plot_geometry.specs.declared.biases.Bias.{Bias}
 use Rattle.recording.specs.Items.{Item, datagram, tick, bias}
 use Rattle.admission_log.specs.declared.settings.Settings as admission
 use Rattle.admission_log.specs.declared.events.Event.{Event}
-use Rattle.admission_log.specs.declared.events.Event.TheVariants.{Tick}
 use Rattle.admission_log.specs.Histories.{History, appended}
 use Rattle.settings_text.specs.declared.faults.SettingsFault.{SettingsFault}
 use Rattle.settings_text.specs.Answers.{IsSettingsAnswer}
-use Rattle.session_script.specs.Scripts.{Binding, End, GetsFirst, GetsNothing, Gives, Script, StopsHere, ends, opens, picks, reads, writes, piece_for, read_of}
-use Rattle.session_script.specs.declared.status.Status.TheVariants as statuses
-use Rattle.tracker_session.specs.Check.{CheckGives, check_script, prices_read, verdict_end}
-use Rattle.tracker_session.specs.Checking.{Checks, HasVerdict}
+use Rattle.session_script.specs.Scripts.{Binding, End, GetsFirst, GetsNothing, Gives, Script, StopsHere, ends, opens, piece_for, read_of}
+use Rattle.tracker_session.specs.Check.{CheckGives, check_script}
 use Rattle.tracker_session.specs.Commands.{CommandGives, script_of}
 use Rattle.tracker_session.specs.Counting.{counts_of}
 use Rattle.tracker_session.specs.Inputs.{HasInput, tells_biases}
 use Rattle.tracker_session.specs.Picture.{IsEdition}
 use Rattle.tracker_session.specs.Replay.{Adds, IsLogAfter, IsOutput, empty_log, log_with}
-use Rattle.tracker_session.specs.ReplayGives.{HasSettings, OnlyOutput, ReplayGives, ReplaysPartly, WroteSome, all_bound, both_read, settings_read}
-use Rattle.tracker_session.specs.ReplayScript.{Added, DocumentAnswer, EditionOf, edition_script, end_at, ending, input_script, items_script, octets_script, replay_script, under}
+use Rattle.tracker_session.specs.ReplayGives.{HasSettings, OnlyOutput, ReplayGives, ReplaysPartly, WroteSome, all_bound, both_read}
+use Rattle.tracker_session.specs.ReplayScript.{Added, edition_script, end_at, ending, input_script, items_script, octets_script, replay_script, under}
 use Rattle.tracker_session.specs.Taking.{shows}
 use Rattle.tracker_session.specs.Words.{Line, replay, check, other}
 use Rattle.tracker_session.proofs.Alike.{answer_alike, partly_alike, read_alike, replays_alike}
 use Rattle.tracker_session.proofs.Logs.{delivery_kinds}
 use Rattle.tracker_session.proofs.Outputs.{Grows, grows_on, nothing_given, output_silent, output_tick}
-use Rattle.tracker_session.proofs.Replayed.{front_of}
 use Rattle.tracker_session.proofs.Verdicts.{checks_alike}
 
 -- ---- what an item makes of the output

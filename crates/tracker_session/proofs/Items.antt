@@ -8,7 +8,7 @@ use Rattle.io_traits.specs.declared.host.Place.TheVariants as places
 use Rattle.recording.specs.declared.item.Item.{Item as Held}
 use Rattle.recording.specs.Answers.{item_of, items_of}
 use Rattle.recording.specs.declared.header.Header.TheVariants.{Second}
-use Rattle.recording.specs.Items.{Item, IsItem, tick}
+use Rattle.recording.specs.Items.{Item, IsItem}
 use Rattle.admission_log.specs.declared.settings.Settings.{Settings}
 use Rattle.admission_log.specs.declared.events.Event.{Event}
 use Rattle.admission_log.specs.Histories.{History}

@@ -1,6 +1,6 @@
 -- The log of items: there is one at most, and how it grows.
 use Rattle.std.proofs.Common.{◌≡◌, ◌∙◌, ap, sym, refl, subst, ℕ, ◌+◌, ◌<◌, ◌≤◌, List, [], ◌∷◌, ◌++◌, arith, append_assoc, append-nil}
-use Rattle.std.specs.Prelude.{Bool, true, false, Option, Some, None, count_by, cond, fold, max}
+use Rattle.std.specs.Prelude.{Bool, Option, Some, None, count_by, cond, fold, max}
 use Rattle.std.specs.List.{filter_map}
 use Rattle.std.proofs.lemmas.List.Elements.{filter_map-append}
 use Rattle.std.proofs.lemmas.List.Sums.{fold-append, sum_by-cons, sum_by_push}

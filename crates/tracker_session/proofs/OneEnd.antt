@@ -1,5 +1,5 @@
 -- A line has one end on what the places hold, and one output.
-use Rattle.std.proofs.Common.{◌≡◌, ◌∙◌, ap, inl, inr, refl, sym, subst, ℕ, List}
+use Rattle.std.proofs.Common.{◌≡◌, ◌∙◌, ap, inl, inr, sym, subst, ℕ, List}
 use Rattle.std.specs.Prelude.{Option, Some, None, Ok, Err, Result}
 use Rattle.io_traits.specs.declared.host.Place.{Place}
 use Rattle.io_traits.specs.declared.host.Place.TheVariants as places
@@ -9,8 +9,7 @@ use Rattle.settings_text.specs.Answers.{IsSettingsAnswer}
 use Rattle.settings_text.proofs.OnlyAnswer.{only_answer}
 use Rattle.session_script.specs.Scripts.{Binding, End}
 use Rattle.session_script.specs.declared.status.Status.TheVariants.{Settings}
-use Rattle.tracker_session.specs.declared.counts.Counts.{Counts}
-use Rattle.tracker_session.specs.Check.{CheckGives, IsChecked, verdict_end}
+use Rattle.tracker_session.specs.Check.{CheckGives, verdict_end}
 use Rattle.tracker_session.specs.Checking.{Checks}
 use Rattle.tracker_session.specs.Commands.{CommandGives, IsRefusal}
 use Rattle.tracker_session.specs.Replay.{Replays}
@@ -50,8 +49,7 @@ module _ (held : Place → List ℕ) (bound bound' : List Binding) (gets gets' :
   refused_twice settings h k =
       let bad = subst (λ (d : List ℕ). IsSettingsAnswer d (Err h.fault)) h.held h.bad in
       let bad' = subst (λ (d : List ℕ). IsSettingsAnswer d (Err k.fault)) k.held k.bad in
-      let fault = same_fault h.fault k.fault (only_answer (held places.Settings) (Err h.fault) (Err k.fault) bad bad') in
-      (
+      let fault = same_fault h.fault k.fault (only_answer (held places.Settings) (Err h.fault) (Err k.fault) bad bad') in (
         same_end end (Err (Settings h.fault)) h.end_is ∙ ap (λ f. Err (Settings f)) fault ∙ sym (same_end end' (Err (Settings k.fault)) k.end_is),
         h.bound_is ∙ sym k.bound_is,
         h.nothing places.Output ∙ sym (k.nothing places.Output),
@@ -67,8 +65,7 @@ module _ (held : Place → List ℕ) (bound bound' : List Binding) (gets gets' :
       let given = same_settings h.given k.given (only_answer (held places.Settings) (Ok h.given) (Ok k.given) (good h.given h.has) (good k.given k.has)) in
       let first = subst (λ (o : List ℕ). Replays h.given o (gets places.Output) h.counts h.fault) h.held h.replays in
       let second = subst (λ (s : admission.Settings). Replays s (held places.Input) (gets' places.Output) k.counts k.fault) (sym given) (subst (λ (o : List ℕ). Replays k.given o (gets' places.Output) k.counts k.fault) k.held k.replays) in
-      let same = one_replay h.given (held places.Input) (gets places.Output) (gets' places.Output) h.counts k.counts h.fault k.fault first second in
-      (
+      let same = one_replay h.given (held places.Input) (gets places.Output) (gets' places.Output) h.counts k.counts h.fault k.fault first second in (
         same_end end (end_at h.fault h.counts) h.end_is ∙ (λ i. end_at (same.2 i) (same.1 i)) ∙ sym (same_end end' (end_at k.fault k.counts) k.end_is),
         h.bound_is ∙ sym k.bound_is,
         same.0,
@@ -89,8 +86,7 @@ module _ (held : Place → List ℕ) (bound bound' : List Binding) (gets gets' :
   checks_once : (prices : List ℕ) → CheckGives prices (Holds held) bound gets (Some end) → CheckGives prices (Holds held) bound' gets' (Some end') → Same end end' bound bound' gets gets'
   checks_once prices (inl h) (inl k) =
       let first = subst (λ (o : List ℕ). Checks o h.verdict) h.held h.checks in
-      let second = subst (λ (o : List ℕ). Checks o k.verdict) k.held k.checks in
-      (
+      let second = subst (λ (o : List ℕ). Checks o k.verdict) k.held k.checks in (
         same_end end (verdict_end h.verdict) h.end_is ∙ ap verdict_end (one_verdict (held places.Prices) h.verdict k.verdict first second) ∙ sym (same_end end' (verdict_end k.verdict) k.end_is),
         h.bound_is ∙ sym k.bound_is,
         h.nothing places.Output ∙ sym (k.nothing places.Output),
@@ -103,9 +99,9 @@ module _ (held : Place → List ℕ) (bound bound' : List Binding) (gets gets' :
     elim h.end_is [
       | inr e ↦ absurd (never_none end e)
       | inl e ↦ elim k.end_is [
-          | inr f ↦ absurd (never_none end' f)
-          | inl f ↦ same_end end end' (e ∙ sym f)
-        ]
+        | inr f ↦ absurd (never_none end' f)
+        | inl f ↦ same_end end end' (e ∙ sym f)
+      ]
     ],
     h.unbound ∙ sym k.unbound,
     h.nothing places.Output ∙ sym (k.nothing places.Output),

@@ -1,19 +1,15 @@
 -- Which line has the status Usage, and that a line has one end.
-use Rattle.std.proofs.Common.{◌≡◌, ◌⊎◌, ◌∙◌, ap, inl, inr, refl, sym, subst, ℕ, List}
-use Rattle.std.specs.Prelude.{Option, Some, None, Ok, Err, Result}
+use Rattle.std.proofs.Common.{◌≡◌, ◌∙◌, ap, inl, inr, refl, sym, ℕ, List}
+use Rattle.std.specs.Prelude.{Option, Some, None, Ok, Err}
 use Rattle.io_traits.specs.Host.{HostState}
 use Rattle.io_traits.specs.declared.host.Place.{Place}
-use Rattle.io_traits.specs.declared.host.Place.TheVariants as places
-use Rattle.admission_log.specs.declared.settings.Settings as admission
 use Rattle.settings_text.specs.declared.faults.SettingsFault.{SettingsFault}
-use Rattle.settings_text.proofs.OnlyAnswer.{only_answer}
-use Rattle.settings_text.specs.Answers.{IsSettingsAnswer}
-use Rattle.session_script.specs.Ends.{BrokeOff, ComesTo, EndsSo, IsStatusOf}
+use Rattle.session_script.specs.Ends.{BrokeOff, ComesTo, EndsSo}
 use Rattle.session_script.specs.Scripts.{Binding, End}
 use Rattle.session_script.specs.declared.status.Status.{Status}
 use Rattle.session_script.specs.declared.status.Status.TheVariants as statuses
 use Rattle.tracker_session.specs.declared.counts.Counts.{Counts}
-use Rattle.tracker_session.specs.Check.{CheckGives, IsChecked, verdict_end}
+use Rattle.tracker_session.specs.Check.{CheckGives, verdict_end}
 use Rattle.tracker_session.specs.Checking.{Verdict, proved, fails, fault}
 use Rattle.tracker_session.specs.Commands.{CommandGives}
 use Rattle.tracker_session.specs.ReplayGives.{ReplayGives}

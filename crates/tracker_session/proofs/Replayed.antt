@@ -1,7 +1,7 @@
 -- A replay has one output and one answer, and what a run that broke off wrote is a prefix of it.
-use Rattle.std.proofs.Common.{◌≡◌, ◌≤◌, ◌∙◌, ap, sym, refl, subst, ℕ, List, [], ◌++◌, length, take, drop, arith, append-nil, length-append}
+use Rattle.std.proofs.Common.{◌≡◌, ◌≤◌, ◌∙◌, ap, sym, subst, ℕ, List, length, take, drop, arith, length-append}
 use Rattle.std.specs.Prelude.{Option}
-use Rattle.std.proofs.lemmas.List.{take-append-drop, take-append-le, take_at}
+use Rattle.std.proofs.lemmas.List.{take-append-drop, take-append-le}
 use Rattle.recording.specs.declared.header.Header.{Header}
 use Rattle.recording.specs.Items.{Item}
 use Rattle.admission_log.specs.declared.settings.Settings.{Settings}

@@ -1,5 +1,5 @@
 -- Counts with one more item.
-use Rattle.std.proofs.Common.{◌≡◌, ◌∙◌, ap, sym, refl, ℕ, zero, suc, ◌+◌, ◌-◌, ◌<◌, ◌≤◌, List, [], ◌∷◌, ◌++◌, length, get_or, take, arith, append-nil}
+use Rattle.std.proofs.Common.{◌≡◌, ◌∙◌, ap, sym, refl, ℕ, zero, suc, ◌+◌, ◌<◌, ◌≤◌, List, [], ◌∷◌, ◌++◌, length, get_or, take, arith, append-nil}
 use Rattle.std.specs.Prelude.{Bool, true, false, Some, None, count_by, cond}
 use Rattle.std.specs.List.{sum_by}
 use Rattle.std.proofs.lemmas.List.{take_more}
@@ -19,7 +19,7 @@ use Rattle.admission_log.specs.Deliveries.{IsDeliveryTo, outcomes_in}
 use Rattle.tracker_session.specs.declared.taking.Run.{Run}
 use Rattle.tracker_session.specs.declared.counts.Counts.{Counts}
 use Rattle.tracker_session.specs.Counting.{is_datagram, is_tick, is_bias, is_delivery, is_tick_taken, is_change, is_admitted, is_unknown, is_early, is_ahead, is_not_plot, others_in, told_of, counted, counts_of, missed, raised, with_told}
-use Rattle.tracker_session.specs.Replay.{HasFault, IsReplayLog, empty_log}
+use Rattle.tracker_session.specs.Replay.{HasFault, IsReplayLog}
 use Rattle.tracker_session.specs.Taking.{HasTaken, Takes, TakesSilently}
 use Rattle.tracker_session.proofs.Logs.{DeliveryKinds, Kinds, bit, covered, delivery_kinds}
 

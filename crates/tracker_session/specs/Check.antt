@@ -4,7 +4,7 @@ use Rattle.std.specs.Fmt.{decimal}
 use Rattle.io_traits.specs.declared.host.Place.{Place}
 use Rattle.io_traits.specs.declared.host.Place.TheVariants as places
 use Rattle.io_traits.specs.declared.host.Way.TheVariants as ways
-use Rattle.session_script.specs.Scripts.{Binding, End, GetsNothing, Script, StopsHere, reads, picks, ends}
+use Rattle.session_script.specs.Scripts.{Binding, End, GetsNothing, Script, reads, picks, ends}
 use Rattle.session_script.specs.declared.status.Status.TheVariants.{Input, NotProved}
 use Rattle.tracker_session.specs.Checking.{Checks, HasVerdict, Verdict, proved, fails, fault}
 

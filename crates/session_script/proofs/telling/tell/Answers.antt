@@ -1,4 +1,4 @@
-use Rattle.std.proofs.Common.{rules, ◌≡◌, refl, inr, sym, subst, ap, List, ℕ}
+use Rattle.std.proofs.Common.{rules, refl, inr, sym, subst, ap, List, ℕ}
 use Rattle.std.specs.Prelude.{string_bytes}
 use Rattle.io_traits.specs.Places.{GotPrefix, HasFailed}
 use Rattle.io_traits.specs.declared.host.Place.TheVariants as places

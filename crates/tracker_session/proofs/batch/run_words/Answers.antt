@@ -1,5 +1,5 @@
 use Rattle.std.proofs.Common.{rules, ◌≡◌, sym, subst, Err}
-use Rattle.session_script.specs.Scripts.{Follows, end_of, ends}
+use Rattle.session_script.specs.Scripts.{Follows, end_of}
 use Rattle.session_script.specs.declared.status.Status.TheVariants.{Usage}
 use Rattle.session_script.proofs.Following.{at_end, gave_up}
 use Rattle.tracker_session.specs.Commands.{script_of}

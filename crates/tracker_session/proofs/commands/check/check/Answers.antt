@@ -2,7 +2,7 @@ use Rattle.std.proofs.Common.{rules, ◌≡◌, ap, subst, List, ℕ, Ok, Err}
 use Rattle.std.specs.Prelude.{string_bytes}
 use Rattle.io_traits.specs.Host.{HostState}
 use Rattle.io_traits.specs.declared.host.Place.TheVariants as places
-use Rattle.session_script.specs.Scripts.{End, Follows, Script, ends, end_of, picks}
+use Rattle.session_script.specs.Scripts.{Follows, Script, ends, end_of, picks}
 use Rattle.session_script.specs.declared.status.Status.{Status}
 use Rattle.session_script.specs.declared.status.Status.TheVariants as statuses
 use Rattle.session_script.proofs.Following.{after_pick, after_read, at_end, ended_so, gave_up, reading_broke}

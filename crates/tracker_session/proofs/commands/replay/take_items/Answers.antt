@@ -1,4 +1,4 @@
-use Rattle.std.proofs.Common.{rules, ◌≡◌, ◌∙◌, ◌<◌, ◌≤◌, ap, sym, subst, ℕ, ◌+◌, List, [], ◌∷◌, length, get_or, take, drop, Ok, Err, Some, None, Option}
+use Rattle.std.proofs.Common.{rules, ◌≡◌, ◌∙◌, ◌<◌, ◌≤◌, ap, sym, subst, ℕ, ◌+◌, List, ◌∷◌, length, get_or, drop, Err, None, Option}
 use Rattle.std.specs.Prelude.{Vec}
 use Rattle.std.specs.declared.alloc.Global.{Global}
 use Rattle.io_traits.specs.Host.{HostState, IsBoundFor}
@@ -9,7 +9,7 @@ use Rattle.recording.specs.declared.header.Header.TheVariants.{Second}
 use Rattle.recording.specs.declared.item.Item.{Item as Held}
 use Rattle.recording.specs.Items.{Item, IsItem}
 use Rattle.admission_log.specs.Histories.{History}
-use Rattle.session_script.specs.Scripts.{End, Follows, end_of}
+use Rattle.session_script.specs.Scripts.{Follows, end_of}
 use Rattle.session_script.specs.Steps.{PlaceWritten, WritingBroke}
 use Rattle.session_script.specs.declared.status.Status.TheVariants.{Memory}
 use Rattle.session_script.proofs.Following.{after_write, ended_so, gave_up, still_open, writing_broke}
