@@ -1,0 +1,89 @@
+// In which direction a point lies, in 360/65,536 degrees clockwise from north.
+ghost use Rattle.std.specs.Prelude.{◌≡◌, ◌≤◌, ◌+◌, ◌^◌, IfOk, map, unsigned_abs};
+ghost use Rattle.std.specs.List.{range_with_len};
+ghost use Rattle.scene_gen.specs.Bearings.{bearing, bearing_from, direction, lies_on, quarter};
+
+use plot_geometry::rotate;
+use std::alloc::Global;
+use trk_base::NoMemory;
+
+/// A point of the plane: to the east and to the north.
+pub(crate) type Point = (i64, i64);
+
+/// How many angles there are.
+const ANGLES: usize = 1 << 16;
+
+/// The binary digits of an angle within a quarter turn.
+const DIGITS: u32 = 14;
+
+/// The directions of all angles, each as a point 2^20 from the origin. They are made once, since a
+/// bearing looks at 14 of them.
+pub(crate) fn directions(alloc: Global) -> Result<Vec<Point>, NoMemory>
+    ensures { IfOk result (λ v. v.items ≡ map direction (range_with_len 0 65536)) }
+{
+    let mut directions = Vec::with_capacity(alloc, ANGLES)?;
+    for angle in 0..ANGLES {
+        directions.push(rotate(angle as u16, 1 << 20))?;
+    }
+    Ok(directions)
+}
+
+// The quarter turn from which on a point lies.
+fn quarter(point: Point) -> u16
+    ensures value { result ≡ quarter point.0 point.1 }
+    ensures whole { result + 2 ^ 14 ≤ 2 ^ 16 }
+{
+    let (x, y) = point;
+    if x >= 0 && y > 0 {
+        0
+    } else if x > 0 && y <= 0 {
+        0x4000
+    } else if x <= 0 && y < 0 {
+        0x8000
+    } else {
+        0xC000
+    }
+}
+
+// The point lies in this direction, or on from it clockwise by less than a half turn.
+fn lies_on(direction: Point, point: Point) -> bool
+    requires x { unsigned_abs point.0 ≤ 2 ^ 54 }
+    requires y { unsigned_abs point.1 ≤ 2 ^ 54 }
+    ensures { result ≡ lies_on direction point.0 point.1 }
+{
+    let (x, y) = point;
+    let (east, north) = direction;
+    i128::from(x) * i128::from(north) - i128::from(y) * i128::from(east) >= 0
+}
+
+// The angle of a point from a quarter turn on, digit by digit.
+fn bearing_from(directions: &[Point], start: u16, point: Point) -> u16
+    requires directions { directions.now ≡ map direction (range_with_len 0 65536) }
+    requires whole { start + 2 ^ 14 ≤ 2 ^ 16 }
+    requires x { unsigned_abs point.0 ≤ 2 ^ 54 }
+    requires y { unsigned_abs point.1 ≤ 2 ^ 54 }
+    ensures { result ≡ bearing_from 14 start point.0 point.1 }
+{
+    let mut angle = start;
+    for k in (0..DIGITS).rev() {
+        let next = angle + (1 << k);
+        if lies_on(directions[usize::from(next)], point) {
+            angle = next;
+        }
+    }
+    angle
+}
+
+/// The direction of a point, of those of all angles; 0 for the origin.
+pub(crate) fn bearing(directions: &[Point], point: Point) -> u16
+    requires directions { directions.now ≡ map direction (range_with_len 0 65536) }
+    requires x { unsigned_abs point.0 ≤ 2 ^ 54 }
+    requires y { unsigned_abs point.1 ≤ 2 ^ 54 }
+    ensures { result ≡ bearing point.0 point.1 }
+{
+    if point == (0, 0) {
+        0
+    } else {
+        bearing_from(directions, quarter(point), point)
+    }
+}
