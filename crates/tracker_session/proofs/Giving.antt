@@ -20,10 +20,12 @@ use Rattle.tracker_session.specs.Counting.{counts_of}
 use Rattle.tracker_session.specs.Inputs.{HasInput, tells_biases}
 use Rattle.tracker_session.specs.Picture.{IsEdition}
 use Rattle.tracker_session.specs.Replay.{Adds, IsLogAfter, IsOutput, empty_log, log_with}
+use Rattle.scene_gen.specs.Scenes.{scene as drawn}
 use Rattle.tracker_session.specs.ReplayGives.{HasSettings, OnlyOutput, ReplayGives, ReplaysPartly, WroteSome, all_bound, both_read}
 use Rattle.tracker_session.specs.ReplayScript.{Added, edition_script, end_at, ending, input_script, items_script, octets_script, replay_script, under}
+use Rattle.tracker_session.specs.Scene.{RecordingGives, recording_script}
 use Rattle.tracker_session.specs.Taking.{shows}
-use Rattle.tracker_session.specs.Words.{Line, replay, check, other}
+use Rattle.tracker_session.specs.Words.{Line, replay, check, scene, other}
 use Rattle.tracker_session.proofs.Alike.{answer_alike, partly_alike, read_alike, replays_alike}
 use Rattle.tracker_session.proofs.Logs.{delivery_kinds}
 use Rattle.tracker_session.proofs.Outputs.{Grows, grows_on, nothing_given, output_silent, output_tick}
@@ -344,10 +346,35 @@ check_gives prices holds bound gets stop (inr (octets, held, rest, e, inr (v, in
   end_is = h.2;
 })
 
+recording_gives : (octets output : List ℕ) (holds : Place → List ℕ → Type 0) (bound : List Binding) (gets : Place → List ℕ) (stop : Option End) → Gives (recording_script octets output) holds bound gets stop → RecordingGives octets output bound gets stop
+unfolding Gives
+recording_gives octets output holds bound gets stop (inl s) = inr (record { bound_is = inl s.unbound; n = 0; within = omega arith; part = λ p. s.nothing p ∙ sym (no_piece p); unopened = λ e. s.nothing; broken = s.broken })
+recording_gives octets output holds bound gets stop (inr (rest, e, inl w)) = inr (record { bound_is = inr (e ∙ ap (λ r. (places.Output, ways.Write, output) ∷ r) w.unbound); n = w.n; within = w.within; part = w.part; unopened = λ none. absurd (some_bound rest (sym e ∙ none)); broken = w.broken })
+  where
+    some_bound : (rest : List Binding) → (places.Output, ways.Write, output) ∷ rest ≡ [] → ⊥
+    some_bound rest f = cc
+recording_gives octets output holds bound gets stop (inr (rest, e, inr (more, first, inl s))) = inr (record {
+  bound_is = inr (e ∙ ap (λ r. (places.Output, ways.Write, output) ∷ r) s.unbound);
+  n = length octets;
+  within = omega arith;
+  part = λ p. no_more octets more gets first s.nothing p ∙ ap (λ x. piece_for places.Output x p) (sym (take_all (length octets) octets (omega arith)));
+  unopened = λ none. absurd (some_bound rest (sym e ∙ none));
+  broken = s.broken;
+})
+  where
+    some_bound : (rest : List Binding) → (places.Output, ways.Write, output) ∷ rest ≡ [] → ⊥
+    some_bound rest f = cc
+recording_gives octets output holds bound gets stop (inr (rest, e, inr (more, first, inr h))) = inl (record {
+  bound_is = e ∙ ap (λ r. (places.Output, ways.Write, output) ∷ r) h.0;
+  got = no_more octets more gets first h.1;
+  end_is = h.2;
+})
+
 -- What the script of a line gives is what the line's definition says.
 pub command_gives : (line : Line) (holds : Place → List ℕ → Type 0) (bound : List Binding) (gets : Place → List ℕ) (stop : Option End) → Gives (script_of line) holds bound gets stop → CommandGives line holds bound gets stop
 unfolding Gives
 command_gives (replay settings input output prices workers) holds bound gets stop h = replay_gives settings input output holds bound gets stop h
 command_gives (check prices) holds bound gets stop h = check_gives prices holds bound gets stop h
+command_gives (scene seed aircraft seconds late output) holds bound gets stop h = recording_gives (drawn seed aircraft seconds late) output holds bound gets stop h
 command_gives other holds bound gets stop (inl s) = record { unbound = s.unbound; nothing = s.nothing; end_is = inr s.broken }
 command_gives other holds bound gets stop (inr h) = record { unbound = h.0; nothing = h.1; end_is = inl h.2 }

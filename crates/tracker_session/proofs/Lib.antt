@@ -5,6 +5,7 @@ pub mod Giving
 pub mod Inputs
 pub mod Items
 pub mod Logs
+pub mod Numerals
 pub mod OneEnd
 pub mod Outputs
 pub mod Packings

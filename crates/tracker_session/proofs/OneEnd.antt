@@ -15,7 +15,8 @@ use Rattle.tracker_session.specs.Commands.{CommandGives, IsRefusal}
 use Rattle.tracker_session.specs.Replay.{Replays}
 use Rattle.tracker_session.specs.ReplayGives.{HasSettings, IsRefused, IsReplayed, ReplayGives}
 use Rattle.tracker_session.specs.ReplayScript.{end_at}
-use Rattle.tracker_session.specs.Words.{Line, replay, check, other}
+use Rattle.tracker_session.specs.Words.{Line, replay, check, scene, other}
+use Rattle.tracker_session.specs.Scene.{RecordingGives}
 use Rattle.tracker_session.proofs.Replayed.{one_replay}
 use Rattle.tracker_session.proofs.Verdicts.{one_verdict}
 
@@ -94,6 +95,11 @@ module _ (held : Place → List ℕ) (bound bound' : List Binding) (gets gets' :
   checks_once prices (inl h) (inr k) = absurd (never_none end' k.broken)
   checks_once prices (inr h) k = absurd (never_none end h.broken)
 
+  writes_once : (octets output : List ℕ) → RecordingGives octets output bound gets (Some end) → RecordingGives octets output bound' gets' (Some end') → Same end end' bound bound' gets gets'
+  writes_once octets output (inl h) (inl k) = (same_end end end' (h.end_is ∙ sym k.end_is), h.bound_is ∙ sym k.bound_is, h.got places.Output ∙ sym (k.got places.Output))
+  writes_once octets output (inl h) (inr k) = absurd (never_none end' k.broken)
+  writes_once octets output (inr h) k = absurd (never_none end h.broken)
+
   refused_once : IsRefusal bound gets (Some end) → IsRefusal bound' gets' (Some end') → Same end end' bound bound' gets gets'
   refused_once h k = (
     elim h.end_is [
@@ -110,4 +116,5 @@ module _ (held : Place → List ℕ) (bound bound' : List Binding) (gets gets' :
 pub one_end : (line : Line) (held : Place → List ℕ) (bound bound' : List Binding) (gets gets' : Place → List ℕ) (end end' : End) → CommandGives line (λ p octets. octets ≡ held p) bound gets (Some end) → CommandGives line (λ p octets. octets ≡ held p) bound' gets' (Some end') → (end ≡ end') × (bound ≡ bound') × (gets places.Output ≡ gets' places.Output)
 one_end (replay settings input output prices workers) held bound bound' gets gets' end end' h k = replays_once held bound bound' gets gets' end end' settings input output h k
 one_end (check prices) held bound bound' gets gets' end end' h k = checks_once held bound bound' gets gets' end end' prices h k
+one_end (scene seed aircraft seconds late output) held bound bound' gets gets' end end' h k = writes_once held bound bound' gets gets' end end' _ output h k
 one_end other held bound bound' gets gets' end end' h k = refused_once held bound bound' gets gets' end end' h k

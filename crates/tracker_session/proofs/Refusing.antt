@@ -14,7 +14,8 @@ use Rattle.tracker_session.specs.Checking.{Verdict, proved, fails, fault}
 use Rattle.tracker_session.specs.Commands.{CommandGives}
 use Rattle.tracker_session.specs.ReplayGives.{ReplayGives}
 use Rattle.tracker_session.specs.ReplayScript.{end_at}
-use Rattle.tracker_session.specs.Words.{Line, replay, check, other}
+use Rattle.tracker_session.specs.Words.{Line, replay, check, scene, other}
+use Rattle.tracker_session.specs.Scene.{RecordingGives, SceneGives, scene_line}
 
 -- ---- Usage
 
@@ -49,6 +50,13 @@ check_usage : (prices : List ℕ) (holds : Place → List ℕ → Type 0) (bound
 check_usage prices holds bound gets stop (inl h) e = verdict_usage h.verdict (same_end _ _ (sym h.end_is ∙ e))
 check_usage prices holds bound gets stop (inr h) e = none_usage (sym h.broken ∙ e)
 
+done_usage : (text : List ℕ) → ◌≡◌ {A = End} (Ok text) (Err statuses.Usage) → ⊥
+done_usage text e = cc
+
+recording_usage : (octets output : List ℕ) (bound : List Binding) (gets : Place → List ℕ) (stop : Option End) → RecordingGives octets output bound gets stop → NoUsage stop
+recording_usage octets output bound gets stop (inl h) e = done_usage _ (same_end _ _ (sym h.end_is ∙ e))
+recording_usage octets output bound gets stop (inr h) e = none_usage (sym h.broken ∙ e)
+
 -- the end was Usage, where the status is
 usage_end : (stop : Option End) (bound : List Binding) (status : Status) (old new : HostState) → EndsSo stop bound status old new → status ≡ statuses.Usage → stop ≡ Some (Err statuses.Usage)
 usage_end (Some (Ok text)) bound status old new so e = absurd (elim so.1 [ inl h ↦ (let d = sym h.0 ∙ e in cc) | inr h ↦ (let d = sym h.0 ∙ e in cc) ])
@@ -62,4 +70,5 @@ usage_end None bound status old new so e = absurd (never so.0)
 pub only_other : (line : Line) (holds : Place → List ℕ → Type 0) (status : Status) (old new : HostState) → ComesTo (CommandGives line holds) status old new → status ≡ statuses.Usage → line ≡ other
 only_other (replay settings input output prices workers) holds status old new c e = absurd (replay_usage settings input output holds c.bound c.gets c.stop c.given (usage_end c.stop c.bound status old new c.so e))
 only_other (check prices) holds status old new c e = absurd (check_usage prices holds c.bound c.gets c.stop c.given (usage_end c.stop c.bound status old new c.so e))
+only_other (scene seed aircraft seconds late output) holds status old new c e = absurd (recording_usage _ output c.bound c.gets c.stop c.given (usage_end c.stop c.bound status old new c.so e))
 only_other other holds status old new c e = refl

@@ -6,11 +6,13 @@ use Rattle.session_script.specs.declared.status.Status.TheVariants.{Usage}
 use Rattle.tracker_session.specs.Check.{CheckGives, check_script}
 use Rattle.tracker_session.specs.ReplayGives.{ReplayGives}
 use Rattle.tracker_session.specs.ReplayScript.{replay_script}
-use Rattle.tracker_session.specs.Words.{Line, replay, check, other}
+use Rattle.tracker_session.specs.Scene.{SceneGives, scene_script}
+use Rattle.tracker_session.specs.Words.{Line, replay, check, scene, other}
 
 abbrev pub script_of : Line → Script
 script_of (replay settings input output prices workers) = replay_script settings input output
 script_of (check prices) = check_script prices
+script_of (scene seed aircraft seconds late output) = scene_script seed aircraft seconds late output
 script_of other = ends (Err Usage)
 
 -- Other words are refused, unless memory is wanting: nothing is bound and no file gets anything.
@@ -23,4 +25,5 @@ pub record IsRefusal (bound : List Binding) (gets : Place → List ℕ) (stop : 
 abbrev pub CommandGives : Line → (Place → List ℕ → Type 0) → List Binding → (Place → List ℕ) → Option End → Type 0
 CommandGives (replay settings input output prices workers) holds bound gets stop = ReplayGives settings input output holds bound gets stop
 CommandGives (check prices) holds bound gets stop = CheckGives prices holds bound gets stop
+CommandGives (scene seed aircraft seconds late output) holds bound gets stop = SceneGives seed aircraft seconds late output bound gets stop
 CommandGives other holds bound gets stop = IsRefusal bound gets stop

@@ -10,6 +10,7 @@ pub mod Picture
 pub mod Replay
 pub mod ReplayGives
 pub mod ReplayScript
+pub mod Scene
 pub mod Screen
 pub mod Taking
 pub mod Words

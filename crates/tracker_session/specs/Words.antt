@@ -1,7 +1,9 @@
 -- The words of a command line, as lines of commands.
-use Rattle.std.specs.Prelude.{◌≡◌, ◌==◌, ⊤, ℕ, nat_eq, Bool, not, ◌&&◌, length, Result, Ok, Err, List, [], ◌∷◌, codes, map, string_bytes, String, if◌then◌else◌}
+use Rattle.std.specs.Prelude.{◌≡◌, ◌≢◌, ◌==◌, ◌-◌, ◌^◌, ⊤, ℕ, nat_eq, nat_lt, get_or, Option, Some, None, Bool, not, ◌&&◌, length, Result, Ok, Err, List, [], ◌∷◌, codes, map, string_bytes, String, if◌then◌else◌}
 use Rattle.std.specs.List.{starts_with}
+use Rattle.std.specs.Fmt.{decimal}
 use Rattle.std.specs.Str.{bytes_eq}
+use Rattle.std.specs.Str.Parse.{digits_value}
 use Rattle.std.specs.declared.alloc.Global.{Global}
 use Rattle.tracker_session.specs.declared.words.Command.{Command}
 use Rattle.tracker_session.specs.declared.words.Command.TheVariants as commands
@@ -18,23 +20,43 @@ pub data Line : Type 0 where
   replay : List ℕ → List ℕ → List ℕ → List ℕ → ℕ → Line
   -- the name of the prices
   check : List ℕ → Line
+  -- what the scene is drawn from, how many aircraft, for how many seconds, how many late of a hundred plots, and the name of the output
+  scene : ℕ → ℕ → ℕ → ℕ → List ℕ → Line
   other : Line
 
 -- a name isn't empty and doesn't begin with two dashes
 abbrev pub is_name : List ℕ → Bool
 is_name word = not (length word == 0) && not (starts_with nat_eq word (codes "--"))
 
--- `check` and a name, or `replay` and four names, for one worker
+-- neither a sign nor a zero that more octets follow stands first
+pub record IsPlain (word : List ℕ) : Type 0 where
+  pub unsigned : get_or word 0 0 ≢ 43
+  pub short : get_or word 0 0 ≡ 48 → length word ≡ 1
+
+-- the number from the first to the last that a word writes in decimal digits, if it writes one
+abbrev pub number_in : ℕ → ℕ → List ℕ → Option ℕ
+number_in first last word =
+    if bytes_eq word (decimal (digits_value 10 word)) && not (nat_lt (digits_value 10 word) first) && not (nat_lt last (digits_value 10 word)) then Some (digits_value 10 word) else None
+
+-- four numbers, and the name of an output
+abbrev pub scene_with : Option ℕ → Option ℕ → Option ℕ → Option ℕ → List ℕ → Line
+scene_with (Some seed) (Some aircraft) (Some seconds) (Some late) output = scene seed aircraft seconds late output
+scene_with _ _ _ _ output = other
+
+-- `check` and a name; `replay` and four names, for one worker; or `scene` and four numbers, each in its range, and a name
 abbrev pub line_of : List (List ℕ) → Line
 line_of (command ∷ prices ∷ []) = if bytes_eq command (codes "check") && is_name prices then check prices else other
 line_of (command ∷ settings ∷ input ∷ output ∷ prices ∷ []) =
     if bytes_eq command (codes "replay") && is_name settings && is_name input && is_name output && is_name prices then replay settings input output prices 1 else other
+line_of (command ∷ seed ∷ aircraft ∷ seconds ∷ late ∷ output ∷ []) =
+    if bytes_eq command (codes "scene") && is_name output then scene_with (number_in 0 (2 ^ 64 - 1) seed) (number_in 1 2000 aircraft) (number_in 1 3600 seconds) (number_in 0 100 late) output else other
 line_of words = other
 
 -- the line of a command
 abbrev pub line_for : Command → Line
 line_for (commands.Replay settings input output prices workers) = replay (string_bytes settings) (string_bytes input) (string_bytes output) (string_bytes prices) workers
 line_for (commands.Check prices) = check (string_bytes prices)
+line_for (commands.Scene seed aircraft seconds late output) = scene seed aircraft seconds late (string_bytes output)
 
 -- the command is that of the words; or they are none; or memory is wanting
 abbrev pub Parsed : List (List ℕ) → Result Command WordsError → Type 0

@@ -7,6 +7,7 @@ ghost use Rattle.tracker_session.specs.Words.{line_for};
 
 mod check;
 mod replay;
+mod scene;
 
 use crate::words::Command;
 use io_traits::{Host, Place};
@@ -33,5 +34,12 @@ pub fn run_command<R: Threads + Sync, H: Host>(
             workers: _workers,
         } => replay::replay(alloc, settings, input, output, host),
         Command::Check { prices } => check::check(rt, alloc, prices, host),
+        Command::Scene {
+            seed,
+            aircraft,
+            seconds,
+            late,
+            output,
+        } => scene::scene(alloc, seed, aircraft, seconds, late, output, host),
     }
 }

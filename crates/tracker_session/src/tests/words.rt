@@ -31,6 +31,15 @@ fn words_of_commands(rt: HostRuntime) -> Result<(), Fail> {
     let check = Command::Check {
         prices: String::from_str(alloc, "p")?,
     };
+    let scene = Command::Scene {
+        seed: 18_446_744_073_709_551_615,
+        aircraft: 2000,
+        seconds: 3600,
+        late: 100,
+        output: String::from_str(alloc, "r")?,
+    };
+    let numbers = ["scene", "18446744073709551615", "2000", "3600", "100", "r"];
+    compare_words(&rt, alloc, &numbers, Ok(scene))?;
     compare_words(&rt, alloc, &["replay", "a", "b", "c", "d"], Ok(replay))?;
     compare_words(&rt, alloc, &["check", "p"], Ok(check))
 }
@@ -53,7 +62,7 @@ fn refused<'a>(words: &'a [&'a str]) -> Run<'a> {
 
 #[test]
 fn other_words_are_refused(rt: HostRuntime) -> Result<(), Fail> {
-    let lines: [&[&str]; 10] = [
+    let lines: [&[&str]; 17] = [
         &[],
         &["replay", "a", "b", "c"],
         &["replay", "a", "b", "", "d"],
@@ -64,6 +73,13 @@ fn other_words_are_refused(rt: HostRuntime) -> Result<(), Fail> {
         &["check", "a", "b"],
         &["check", "--a"],
         &["check", ""],
+        &["scene", "1", "0", "30", "2", "r"],
+        &["scene", "1", "2001", "30", "2", "r"],
+        &["scene", "1", "20", "03", "2", "r"],
+        &["scene", "+1", "20", "30", "2", "r"],
+        &["scene", "18446744073709551616", "20", "30", "2", "r"],
+        &["scene", "1", "20", "30", "101", "r"],
+        &["scene", "1", "20", "30", "2", "--r"],
     ];
     for words in lines {
         compare_words(&rt, rt.alloc(), words, Err(WordsError::Usage))?;
