@@ -43,15 +43,18 @@ fn run_words<R: Threads + Sync, H: Host>(
 /// `check PRICES` reads a price file, judges the grammar of all of it, and then its certificates, many at
 /// a time.
 ///
+/// `scene SEED AIRCRAFT SECONDS LATE OUTPUT` draws the recording of a scene, and writes it to Output.
+///
 /// - `Usage` comes exactly for other words.
 /// - `Settings` comes in `replay` exactly where Settings was read, and tells its first fault.
 /// - `Read` comes where Settings, Input or Prices couldn't be opened or read, `Write` where Output couldn't
 ///   be opened or written or Screen couldn't be written, and `Memory` where memory is wanting.
 /// - `Input` comes at the first fault of the input, or of the price file, which may have 1,073,741,824
 ///   octets at most.
-/// - `NotProved` comes in `check` at the first certificate that doesn't prove, and else `Done`.
+/// - `NotProved` comes in `check` at the first certificate that doesn't prove.
+/// - `Done` comes else.
 ///
-/// Screen gets the line of the counts where all was done, and else the text of the status; a text that
+/// Screen gets the command's line where all was done, and else the text of the status; a text that
 /// can't be written leaves the status.
 pub fn run_batch<R: Threads + Sync, H: Host>(
     rt: &R,

@@ -6,6 +6,7 @@ ghost use Rattle.io_traits.specs.declared.host.Place.{Place};
 mod checks;
 mod faults;
 mod replays;
+mod scenes;
 mod words;
 
 use crate::{Status, run_batch};
