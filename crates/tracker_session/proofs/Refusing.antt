@@ -15,7 +15,7 @@ use Rattle.tracker_session.specs.Commands.{CommandGives}
 use Rattle.tracker_session.specs.ReplayGives.{ReplayGives}
 use Rattle.tracker_session.specs.ReplayScript.{end_at}
 use Rattle.tracker_session.specs.Words.{Line, replay, check, scene, other}
-use Rattle.tracker_session.specs.Scene.{RecordingGives, SceneGives, scene_line}
+use Rattle.tracker_session.specs.Scene.{RecordingGives}
 
 -- ---- Usage
 

@@ -142,6 +142,6 @@ returns g c =
     let host = state c.loop-item.host in
     let run = c.loop-item.run in
     let end = end_of c.end_at.result in
-    let counts : run.counts ≡ counts_of tells items run.log = c.loop-item.invariant.stands.counts ∙ ap (λ (its : List Item). counts_of tells its run.log) (all_taken xs i all) in
-    let so = subst (λ (n : Counts). IsEndAt fault n end) counts c.end_at.ensures in
+    let part = subst (λ (n : Counts). IsEndAt fault n end) c.loop-item.invariant.stands.counts c.end_at.ensures in
+    let so = subst (λ (its : List Item). IsEndAt fault (counts_of tells its run.log) end) (all_taken xs i all) part in
     c.loop-item.invariant.follows end host (items_over settings (ending tells fault items) run.log (drop i items) end host host (none_left xs i all) (ends_at fault (counts_of tells items run.log) end host so))

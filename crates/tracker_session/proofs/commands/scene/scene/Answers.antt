@@ -1,4 +1,4 @@
-use Rattle.std.proofs.Common.{rules, ◌≡◌, ◌∙◌, ap, sym, subst, List, ℕ, Ok, Err, length}
+use Rattle.std.proofs.Common.{rules, ◌≡◌, ◌∙◌, ap, subst, List, ℕ, Ok, Err, length}
 use Rattle.std.specs.Prelude.{string_bytes}
 use Rattle.io_traits.specs.declared.host.Place.TheVariants as places
 use Rattle.scene_gen.specs.Scenes.{scene}
