@@ -8,3 +8,10 @@ pub mod Keyed
 pub mod Problems
 pub mod Components
 pub mod Tracker
+pub mod OneBatch
+pub mod Calls
+pub mod Told
+pub mod Gates
+pub mod PartGates
+pub mod ToldParts
+pub mod Moving

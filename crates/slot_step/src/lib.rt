@@ -8,10 +8,25 @@
 //! layers above rest on: a run in parts, a slot without plots, and numbers that no run reads.
 #![tactic(auto)]
 
+mod batch_step;
+mod batches;
+mod certs;
+mod gates;
 mod laws;
+mod moving;
+mod pairing;
+mod parts;
+mod reaching;
+mod slots;
+#[cfg(test)]
+mod tests;
 
+pub use batches::{Batch, are_slot_plots, batches_of};
+pub use certs::KeyedCert;
 pub use laws::{
     batch_certificates, component_certificates, empty_batch, expired_twice, keyed_tracks,
     merged_tables, problem_of_batch, resting, run_in_parts, run_in_two_parts, tables_before,
     tracker_laws, two_batches, unread_numbers,
 };
+pub use reaching::{batch_tables, reaches};
+pub use slots::{SlotRan, slot_run, slot_step};

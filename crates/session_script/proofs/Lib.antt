@@ -1,0 +1,5 @@
+pub mod Bindings
+pub mod Coming
+pub mod Following
+pub mod Runs
+pub mod ToldLines
