@@ -14,5 +14,5 @@ mod tests;
 
 pub use building::build;
 pub use edition::{Built, Edition};
-pub use laws::{one_edition, one_rising_number};
+pub use laws::{folded_tables, one_edition, one_rising_number};
 pub use lines::ShownLine;
