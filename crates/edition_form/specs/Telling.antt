@@ -1,5 +1,5 @@
 -- How far both lists of lines were told: what came before, and what is left.
-use Rattle.std.specs.Prelude.{◌≡◌, ◌<◌, ◌≤◌, ℕ, ◌+◌, ◌||◌, Bool, true, false, nat_le, if◌then◌else◌, Option, Some, None, List, [], ◌∷◌, ◌++◌, map, length, take, drop}
+use Rattle.std.specs.Prelude.{◌≡◌, ◌<◌, ◌≤◌, ◌+◌, ◌||◌, Bool, true, false, nat_le, if◌then◌else◌, Option, Some, None, List, [], ◌∷◌, ◌++◌, map, length, take, drop}
 use Rattle.std.specs.List.{AllByRecursion}
 use Rattle.cat062_out.specs.Tracks.{TrackLine}
 use Rattle.edition_form.specs.declared.lines.ShownLine.{ShownLine}

@@ -1,8 +1,6 @@
-use Rattle.std.proofs.Common.{◌≡◌, ◌∙◌, ap, sym, subst, rules, true, false, ℕ, ◌+◌, ◌++◌, get_or, drop, arith, Option, List}
-use Rattle.std.specs.Option.{option_to_list}
-use Rattle.cat062_out.specs.Tracks.{TrackLine}
+use Rattle.std.proofs.Common.{◌∙◌, ap, sym, subst, ◌+◌, drop, arith}
 use Rattle.edition_form.specs.declared.telling.Told.{Told}
-use Rattle.edition_form.specs.Telling.{IsTold, left, old_first}
+use Rattle.edition_form.specs.Telling.{IsTold}
 use Rattle.edition_form.proofs.Stepping.{past_old_step, past_old_lines, past_now_step, past_now_lines, some_line, old_inside, now_inside, told_so}
 use Rattle.edition_form.proofs.telling.Told.next.Goals as goal
 
