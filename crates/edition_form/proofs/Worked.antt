@@ -250,7 +250,7 @@ shown_is : shown_of settings one_plot ≡ shown ∷ []
 shown_is =
     ap (λ tracks. lines_of 4608128 (shown_tracks life 4608128 tracks)) table_is ∙ (ap (lines_of 4608128) kept_at_first ∙ one_line)
 
--- ---- the next edition, half a minute later: the track is gone
+-- ---- the next edition, half a minute later: the track has ended
 
 abbrev half_a_minute : History
 half_a_minute = log_of (delivery ∷ events.Tick 4608128 ∷ events.Tick 4611968 ∷ [])
