@@ -4,7 +4,7 @@ ghost use Rattle.std.specs.List.{flat_map};
 ghost use Rattle.recording.specs.Items.{item_octets};
 ghost use Rattle.scene_gen.specs.Scenes.{north_markers, scene, tick_at};
 
-use crate::datagrams::{START, north_octets};
+use crate::datagrams::{SECOND, START, north_octets};
 use crate::draws::generator_of;
 use crate::fleet::next_fleet;
 use crate::radars::RADARS;
@@ -12,9 +12,6 @@ use crate::sky::Sky;
 use recording::{Item, write_item, write_start};
 use std::alloc::Global;
 use trk_base::NoMemory;
-
-/// Units of time, of 1/128 s, in a second.
-pub(crate) const SECOND: u32 = 128;
 
 // How many seconds a scene goes on when no more plots are seen, so that all have come.
 const LAST_SECONDS: u32 = 10;
