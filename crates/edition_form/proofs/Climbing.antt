@@ -1,9 +1,7 @@
 -- Lines whose numbers differ rise in their order.
-use Rattle.std.proofs.Common.{◌≡◌, ◌≢◌, ◌∙◌, ap, sym, subst, refl, ℕ, ◌<◌, ◌≤◌, Bool, true, false, cond, List, [], ◌∷◌, map, arith, eqb, nat_lt, nat_eq, Option, Some, None}
-use Rattle.std.specs.Prelude.{filter, ◌==◌, unwrap_or}
-use Rattle.std.specs.Ordering.{nat_cmp, ordering_then}
-use Rattle.std.specs.declared.cmp.Ordering.{Ordering}
-use Rattle.std.specs.declared.cmp.Ordering.TheVariants.{Less, Equal, Greater}
+use Rattle.std.proofs.Common.{◌≡◌, ◌≢◌, ap, sym, subst, refl, ℕ, ◌<◌, ◌≤◌, false, List, [], ◌∷◌, arith, eqb, nat_lt, Option, Some, None}
+use Rattle.std.specs.Prelude.{◌==◌, unwrap_or}
+use Rattle.std.specs.declared.cmp.Ordering.TheVariants.{Less}
 use Rattle.std.specs.List.{AllByRecursion, IsDistinct}
 use Rattle.std.specs.List.Sorted.{IsStrictlySortedBy}
 use Rattle.std.proofs.lemmas.Bool.{cond_both, lt-ltb, ltb-true, ltb-false, eqb-false}
@@ -15,8 +13,8 @@ use Rattle.track_life.specs.Tracks.{TrackState}
 use Rattle.track_life.specs.Numbers.{held}
 use Rattle.edition_form.specs.declared.lines.ShownLine.{ShownLine}
 use Rattle.edition_form.specs.Numbered.{put, in_rising_number}
-use Rattle.edition_form.specs.Pictures.{HaveOwnNumbers, number_of, shown_tracks}
-use Rattle.edition_form.specs.Lines.{RiseByNumber, line_of, lines_of, shown_cmp, shown_line}
+use Rattle.edition_form.specs.Pictures.{HaveOwnNumbers, number_of}
+use Rattle.edition_form.specs.Lines.{RiseByNumber, line_of, lines_of, shown_cmp}
 use Rattle.edition_form.specs.Showing.{shown_number}
 use Rattle.edition_form.specs.Telling.{Climb, DontFall}
 use Rattle.edition_form.proofs.Rising.{all_put, all_rising}

@@ -7,4 +7,5 @@ mod Shown
 mod Climbing
 mod Packable
 mod TrackSizes
+mod Foldings
 mod Worked

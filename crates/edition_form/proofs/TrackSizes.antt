@@ -1,6 +1,6 @@
 -- A track's record is within the limit, whatever is told of the track.
 use Rattle.std.proofs.Common.{◌≡◌, ◌∙◌, ap, refl, lit≤, ℕ, suc, ◌+◌, ◌≤◌, List, [], ◌∷◌, ◌++◌, length, map, arith, append-nil, Option, Some, None}
-use Rattle.std.specs.List.{AllByRecursion, flat_map}
+use Rattle.std.specs.List.{AllByRecursion}
 use Rattle.std.proofs.lemmas.List.{length-append}
 use Rattle.std.proofs.lemmas.List.Concat.{flat_map-append}
 use Rattle.asterix_frame.specs.Elements.{Element, numbers, octets_of}

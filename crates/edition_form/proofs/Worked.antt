@@ -1,10 +1,9 @@
 -- The definitions at worked logs, whose octets were computed apart from them: one plot straight north, at 256/256 NM.
-use Rattle.std.proofs.Common.{◌≡◌, refl, ap, ◌∙◌, lit≤, lit<, ℕ, ◌≤◌, ◌<◌, ◌%◌, ℤ, pos, negsuc, neg_ℤ, ◌≤ℤ◌, List, [], ◌∷◌, ◌++◌, Option, Some, None, true, false, map, arith}
+use Rattle.std.proofs.Common.{◌≡◌, refl, ap, ◌∙◌, lit≤, lit<, ℕ, ◌%◌, pos, neg_ℤ, ◌≤ℤ◌, List, [], ◌∷◌, ◌++◌, Some, None, true, false, map, arith}
 use Rattle.trk_base.specs.declared.keys.Key.{Key}
 use Rattle.trk_base.specs.declared.plots.RawPlot.{RawPlot}
 use Rattle.trk_base.specs.Ranges.{IsCode, IsLevel, IsAddress}
-use Rattle.trk_base.specs.Numbers.{isqrt, exp2_lin}
-use Rattle.plot_geometry.specs.declared.biases.Bias.{Bias}
+use Rattle.trk_base.specs.Numbers.{isqrt}
 use Rattle.plot_geometry.specs.declared.radars.RadarSettings.{RadarSettings}
 use Rattle.plot_geometry.specs.Plots.{PlanePlot}
 use Rattle.plot_geometry.specs.Plane.{slant_range, azimuth, height_above, ground_range, cross_range_sigma, squared_sine, axis_variance}
@@ -33,7 +32,7 @@ use Rattle.admission_log.specs.declared.events.Event.{Event}
 use Rattle.admission_log.specs.declared.events.Event.TheVariants as events
 use Rattle.admission_log.specs.declared.events.Outcome.TheVariants as outcomes
 use Rattle.admission_log.specs.Sources.{HaveOwnSources}
-use Rattle.admission_log.specs.Histories.{History, first, last_of}
+use Rattle.admission_log.specs.Histories.{History, last_of}
 use Rattle.admission_log.specs.Plots.{plots_of}
 use Rattle.slot_step.specs.Tracker.{step_tracks}
 use Rattle.cat062_out.specs.Tracks.{TrackLine}
@@ -251,7 +250,7 @@ shown_is : shown_of settings one_plot ≡ shown ∷ []
 shown_is =
     ap (λ tracks. lines_of 4608128 (shown_tracks life 4608128 tracks)) table_is ∙ (ap (lines_of 4608128) kept_at_first ∙ one_line)
 
--- ---- the next edition, half a minute later: the track is gone
+-- ---- the next edition, half a minute later: the track has ended
 
 abbrev half_a_minute : History
 half_a_minute = log_of (delivery ∷ events.Tick 4608128 ∷ events.Tick 4611968 ∷ [])

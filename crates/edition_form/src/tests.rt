@@ -194,7 +194,7 @@ const ROWS: [Row; 4] = [
             ],
         ],
     },
-    // It was gone before.
+    // It was ended before.
     Row {
         time: 4_612_096,
         number: 3,
@@ -245,8 +245,13 @@ fn are_octets(datagrams: &[Sequence<u8>], octets: &[&[u8]]) -> bool {
             .all(|(datagram, row)| datagram.as_slice() == *row)
 }
 
+// What one thread makes and others may read and drop.
+fn crosses_threads<T: Send + Sync>(_: &T) {}
+
 #[test]
+#[tactic(auto, using(crate::proofs::Climbing::no_lines))]
 fn tells_a_track(rt: HostRuntime) -> Result<(), Fail> {
+    crosses_threads(&edition(rt.alloc(), 4_608_128, 1, None, &[])?);
     for (index, row) in ROWS.iter().enumerate() {
         assert_eq!(rt; (index, is_told(rt.alloc(), row)?), (index, true));
     }

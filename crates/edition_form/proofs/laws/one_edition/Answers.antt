@@ -1,4 +1,4 @@
-use Rattle.std.proofs.Common.{◌≡◌, ◌∙◌, ap, sym, refl, List, ℕ, ◌∷◌, [], ◌++◌, ◌%◌, map}
+use Rattle.std.proofs.Common.{◌∙◌, ap, sym, refl, List, ℕ, ◌∷◌, [], ◌++◌, ◌%◌, map}
 use Rattle.asterix_frame.proofs.Packings.{one_block_packing}
 use Rattle.cat062_out.specs.TrackRecords.{track_record}
 use Rattle.admission_log.specs.Histories.{last_of}
