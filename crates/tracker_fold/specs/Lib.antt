@@ -1,2 +1,4 @@
-pub mod Steps
+pub mod Keys
+pub mod Laws
 pub mod Starts
+pub mod Steps

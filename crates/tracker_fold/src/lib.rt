@@ -4,10 +4,10 @@
 //! a radar's biases or an admitted plot, so a window of this fold takes both late.
 #![tactic(auto)]
 
-mod laws;
+mod keys;
 mod state;
 mod step;
 
-pub use laws::{folded_log};
+pub use keys::EntryKey;
 pub use state::TrackerState;
 pub use step::TrackerFold;
