@@ -2,3 +2,9 @@ pub mod Detected
 pub mod Expiry
 pub mod Told
 pub mod Numbering
+pub mod Leaps
+pub mod FirstFree
+pub mod Giving
+pub mod Lent
+pub mod Differing
+pub mod Leaving

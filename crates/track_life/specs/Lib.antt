@@ -1,3 +1,4 @@
 pub mod Tracks
 pub mod Tables
 pub mod Numbers
+pub mod HeldNumbers

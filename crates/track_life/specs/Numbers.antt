@@ -1,5 +1,6 @@
 -- Track numbers (I062/040): which number each track of a table has once numbers were given.
-use Rattle.std.specs.Prelude.{ℕ, ◌+◌, ◌-◌, ◌%◌, ◌==◌, Bool, not, ◌&&◌, if◌then◌else◌, List, [], ◌∷◌, ◌++◌, Option, is_none}
+use Rattle.std.specs.Prelude.{ℕ, ◌+◌, ◌-◌, ◌≤◌, ◌%◌, ◌==◌, Bool, not, ◌&&◌, if◌then◌else◌, List, [], ◌∷◌, ◌++◌, Option, None, is_none}
+use Rattle.std.specs.Option.{option_or, option_to_list}
 use Rattle.std.specs.List.{filter_map, find, list_any, range_with_len}
 use Rattle.track_life.specs.Tracks.{TrackState}
 
@@ -20,6 +21,10 @@ with_number x t = record {
   number = x;
 }
 
+-- a track number
+abbrev pub IsNumber : ℕ → Type 0
+IsNumber n = (1 ≤ n) × (n ≤ 65535)
+
 -- the numbers that tracks hold
 abbrev pub held : List TrackState → List ℕ
 held ts = filter_map (λ t. t.number) ts
@@ -29,7 +34,7 @@ abbrev pub is_among : List ℕ → ℕ → Bool
 is_among numbers n = list_any (λ m. m == n) numbers
 
 -- the order in which numbers are tried for a track whose first plot has this arrival: from one more than the arrival modulo 65,535 up to
--- 65,535, and then on from 1. So each number from 1 to 65,535 has its turn
+-- 65,535, and then on from 1. So each number from 1 to 65,535 stands in it once
 unfoldable pub tried : ℕ → List ℕ
 tried arrival = range_with_len (1 + arrival % 65535) (65535 - arrival % 65535) ++ range_with_len 1 (arrival % 65535)
 
@@ -41,15 +46,15 @@ first_free numbers arrival = find (λ n. not (is_among numbers n)) (tried arriva
 abbrev pub is_waiting : TrackState → Bool
 is_waiting t = t.confirmed && is_none t.number
 
--- a track after its turn, where these numbers are held
-abbrev pub numbered : List ℕ → TrackState → TrackState
-numbered numbers t = if is_waiting t then with_number (first_free numbers t.birth.arrival) t else t
+-- the number that a track is given, where these are held
+abbrev pub new_number : List ℕ → TrackState → Option ℕ
+new_number numbers t = if is_waiting t then first_free numbers t.birth.arrival else None
 
--- tracks in the order of their turns: a number that one is given is held in the turns after it
+-- tracks after numbers were given, one after the other: each keeps its own, and what one is given is held for those after it
 abbrev pub given : List ℕ → List TrackState → List TrackState
 given numbers [] = []
-given numbers (t ∷ ts) = numbered numbers t ∷ given (held (numbered numbers t ∷ []) ++ numbers) ts
+given numbers (t ∷ ts) = with_number (option_or t.number (new_number numbers t)) t ∷ given (option_to_list (new_number numbers t) ++ numbers) ts
 
--- a table after numbers were given, in birth order: what its tracks hold at first, no other is given
+-- a table after numbers were given, in birth order: none of the numbers that its tracks hold is given
 unfoldable pub assigned : List TrackState → List TrackState
 assigned ts = given (held ts) ts

@@ -5,6 +5,7 @@
 //! Tracking and Navigation" (2001): a track is tentative until it is confirmed.
 #![tactic(auto)]
 
+mod held_numbers;
 mod laws;
 mod numbers;
 mod settings;
@@ -13,8 +14,7 @@ mod tables;
 mod tests;
 mod tracks;
 
-pub use laws::numbers_alone;
-pub use numbers::assign_numbers;
+pub use laws::{numbers_alone, numbers_differ, numbers_left};
 pub use settings::LifeSettings;
-pub use tables::{Table, expire};
+pub use tables::{Table, assign_numbers, expire};
 pub use tracks::Track;

@@ -1,7 +1,9 @@
-// Tables of tracks, and expiry.
-ghost use Rattle.std.specs.Prelude.{◌≡◌, IfOk};
+// Tables of tracks, expiry, and their numbers.
+ghost use Rattle.std.specs.Prelude.{◌≡◌, IfOk, OnErr, OnOk};
 ghost use Rattle.track_life.specs.Tables.{keep, is_kept, unexpired};
+ghost use Rattle.track_life.specs.Numbers.{assigned};
 
+use crate::numbers::give_numbers;
 use crate::{LifeSettings, Track};
 use std::alloc::Global;
 use std::marker::Model;
@@ -89,6 +91,18 @@ pub fn expire(
         }
     }
     Ok(Table { tracks: kept })
+}
+
+/// Gives each confirmed track without a number its track number (I062/040), in birth order: the
+/// first that no track of the table holds, from one more than the arrival of its first plot modulo
+/// 65,535 up to 65,535, and then on from 1. Where all 65,535 are held it stays without. A track
+/// that has a number keeps it, and a tentative one isn't given any. Without memory the table is as
+/// it was.
+pub fn assign_numbers(alloc: Global, table: &mut Table) -> Result<(), NoMemory>
+    ensures given { OnOk result (table.new ≡ assigned table.old) }
+    ensures unchanged { OnErr result (table.new ≡ table.old) }
+{
+    give_numbers(alloc, &mut table.tracks)
 }
 
 // Whether a track hasn't expired at the start of a slot.

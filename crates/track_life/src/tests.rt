@@ -2,6 +2,8 @@
 ghost use Rattle.std.specs.Prelude.{◌≡◌, ◌≤◌};
 ghost use Rattle.trk_base.specs.Ranges.{IsLevel};
 
+mod numbers;
+
 use crate::{LifeSettings, Table, Track, expire};
 use plot_geometry::PlanePlot;
 use std::test::Fail;
