@@ -148,9 +148,9 @@ fn unmoved(alloc: Global, table: &Table) -> Result<SlotRan, NoMemory>
     })
 }
 
-// The radars after the changes among entries.
+/// The radars after the changes of biases among entries, in their order.
 #[tactic(auto, unfolding(crate::specs::Steps::radars_after))]
-fn radars_after(
+pub fn radars_after(
     alloc: Global,
     before: &[RadarSettings],
     entries: &[Entry],
