@@ -1,0 +1,9 @@
+-- What tells entries apart that stand together: of a change its slot and the index of its event, of a plot its key.
+use Rattle.admission_log.specs.declared.entries.Entry.{Entry}
+use Rattle.admission_log.specs.declared.entries.Entry.TheVariants.{Bias, Plot}
+use Rattle.tracker_fold.specs.declared.keys.EntryKey.{EntryKey}
+use Rattle.tracker_fold.specs.declared.keys.EntryKey.TheVariants as keys
+
+abbrev pub key_in : Entry → EntryKey
+key_in (Bias slot place radar bias) = keys.Change slot place
+key_in (Plot key raw) = keys.Plot key
