@@ -1,22 +1,21 @@
 -- A reader of a profile: the values so far, and what becomes of the record that begins next.
-use Rattle.std.proofs.Common.{◌≡◌, ◌≢◌, ◌∙◌, ap, sym, refl, subst, ℕ, ◌+◌, ◌-◌, ◌<◌, ◌≤◌, List, [], ◌∷◌, ◌++◌, length, take, drop, arith, append_assoc, append-nil, length-append, Option, Some, Result, Ok, Err}
+use Rattle.std.proofs.Common.{◌≡◌, ◌≢◌, ◌∙◌, ap, sym, refl, ℕ, ◌+◌, ◌-◌, ◌≤◌, List, [], ◌∷◌, ◌++◌, length, take, drop, arith, append_assoc, append-nil, length-append, Option, Some, Err}
 use Rattle.std.specs.List.{flat_map, AllByRecursion}
 use Rattle.std.proofs.lemmas.Grind.{flat_map-append}
 use Rattle.std.proofs.lemmas.List.{drop_all}
 use Rattle.std.proofs.Math.Seq.{take-append_seam}
 use Rattle.asterix_frame.specs.declared.block.Block.{Block}
-use Rattle.asterix_frame.specs.declared.block.Malformed.{Malformed}
 use Rattle.asterix_frame.specs.declared.tables.Uap.{Uap}
 use Rattle.asterix_frame.specs.declared.walk.ItemSpans.{ItemSpans}
 use Rattle.asterix_frame.specs.Elements.{Element}
-use Rattle.asterix_frame.specs.DataRecords.{DataRecord, IsDataRecord, record_octets}
-use Rattle.asterix_frame.specs.Bodies.{HasDataRecord, IsFaultFrom, elements_at}
+use Rattle.asterix_frame.specs.DataRecords.{DataRecord, record_octets}
+use Rattle.asterix_frame.specs.Bodies.{HasDataRecord, elements_at}
 use Rattle.asterix_frame.specs.Encoding.{record_of}
 use Rattle.asterix_frame.proofs.DataRecordCodes.{record_code}
 use Rattle.cat062_out.specs.declared.error.ProfileError.{ProfileError}
 use Rattle.cat062_out.specs.declared.error.ProfileError.TheVariants as errors
 use Rattle.cat062_out.specs.Answers.{AnswersWith, RefusesWith, IfRefused}
-use Rattle.cat062_out.specs.Profile.{written, AreWritten, IsForeign, IsRefusal, BeginsValue, BeginsForeign, BeginsNoValue}
+use Rattle.cat062_out.specs.Profile.{written, AreWritten, IsRefusal, BeginsValue, BeginsForeign, BeginsNoValue}
 use Rattle.cat062_out.proofs.Profiles.{IsProfile, value_record, one_list, one_refusal, not_both}
 
 module _ (T : Type 0) (uap : Uap) (Is : T → Type 0) (items : T → List Element) where

@@ -1,8 +1,7 @@
 -- A block has at most one reading by a profile: as the records of values, or as a first refusal.
-use Rattle.std.proofs.Common.{◌≡◌, ◌≢◌, ◌∙◌, ap, sym, refl, subst, zero, suc, ℕ, ◌+◌, ◌-◌, ◌<◌, ◌≤◌, List, [], ◌∷◌, ◌++◌, length, take, drop, arith, append_assoc, append-nil, length-append, Option, Some}
-use Rattle.std.specs.List.{flat_map, AllByRecursion}
+use Rattle.std.proofs.Common.{◌≡◌, ◌∙◌, ap, sym, refl, subst, zero, suc, ℕ, ◌+◌, ◌<◌, List, [], ◌++◌, length, arith, length-append}
+use Rattle.std.specs.List.{flat_map}
 use Rattle.asterix_frame.specs.declared.block.Block.{Block}
-use Rattle.asterix_frame.specs.declared.block.Malformed.{Malformed}
 use Rattle.asterix_frame.specs.declared.tables.Uap.{Uap}
 use Rattle.asterix_frame.specs.Elements.{Element}
 use Rattle.asterix_frame.specs.DataRecords.{DataRecord, IsDataRecord, BeginsNoDataRecord, record_octets}
@@ -12,7 +11,7 @@ use Rattle.asterix_frame.proofs.Encodings.{is_record}
 use Rattle.asterix_frame.proofs.Sequences as sequences
 use Rattle.cat062_out.specs.declared.error.ProfileError.{ProfileError}
 use Rattle.cat062_out.specs.declared.error.ProfileError.TheVariants as errors
-use Rattle.cat062_out.specs.Profile.{written, AreWritten, IsMalformedAfter, IsForeign, IsOutOfProfile, IsRefusal}
+use Rattle.cat062_out.specs.Profile.{written, AreWritten, IsForeign, IsRefusal}
 
 -- the items of each value are a record of the category, and no two values have the same ones
 pub record IsProfile {T : Type 0} (uap : Uap) (Is : T → Type 0) (items : T → List Element) : Type 0 where

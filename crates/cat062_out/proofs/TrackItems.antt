@@ -1,5 +1,5 @@
 -- The items of a track's record, put in part by part.
-use Rattle.std.proofs.Common.{◌≡◌, ◌∙◌, ap, ℕ, ◌+◌, ◌≤◌, List, [], ◌∷◌, ◌++◌, length, arith, append_assoc, length-append}
+use Rattle.std.proofs.Common.{◌≡◌, ◌∙◌, ap, ◌+◌, List, [], ◌∷◌, ◌++◌, length, arith, append_assoc, length-append}
 use Rattle.asterix_frame.specs.Elements.{Element, numbers, octets_of}
 use Rattle.asterix_frame.specs.Values.{big_endian}
 use Rattle.asterix_frame.specs.DataRecords.{record_octets}

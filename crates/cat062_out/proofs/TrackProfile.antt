@@ -1,26 +1,24 @@
 -- Tracks are a profile: the items of each are a record of the category, and tell the track.
-use Rattle.std.proofs.Common.{◌≡◌, ◌≢◌, ◌∙◌, ap, sym, refl, subst, ℕ, ◌+◌, ◌-◌, ◌<◌, ◌≤◌, ◌^◌, List, [], ◌∷◌, ◌++◌, length, take, drop, arith, Bool, true, false, Option, Some, None, nat_eq}
+use Rattle.std.proofs.Common.{◌≡◌, ◌≢◌, ◌∙◌, ap, sym, refl, subst, ℕ, ◌+◌, ◌-◌, ◌<◌, ◌≤◌, List, [], ◌∷◌, ◌++◌, length, take, drop, arith, true, false, Option, Some, None, nat_eq}
 use Rattle.std.specs.Prelude.{IfSome}
 use Rattle.std.specs.List.{AllByRecursion}
 use Rattle.std.proofs.lemmas.List.{take_at}
 use Rattle.std.specs.Cmp.Lexicographic.{pointwise, bytes_decides}
 use Rattle.trk_base.specs.Numbers.{day}
 use Rattle.trk_base.specs.Ranges.{IsTimeOfDay}
-use Rattle.asterix_frame.specs.declared.block.Block.{Block}
-use Rattle.asterix_frame.specs.declared.tables.Uap.{Uap}
 use Rattle.asterix_frame.specs.declared.tables.Uap.TheVariants.{Cat062}
 use Rattle.asterix_frame.specs.declared.walk.ItemSpans.{ItemSpans}
 use Rattle.asterix_frame.specs.Tables.{cat062, update_ages, aircraft_data, accuracies}
 use Rattle.asterix_frame.specs.Items.{IsItem, IsSubfield, item_at, subfield_at}
 use Rattle.asterix_frame.specs.Elements.{Element, numbers}
-use Rattle.asterix_frame.specs.Values.{big_endian, three_octets}
-use Rattle.asterix_frame.specs.DataRecords.{DataRecord, IsDataItem, record_octets, time_in}
+use Rattle.asterix_frame.specs.Values.{big_endian}
+use Rattle.asterix_frame.specs.DataRecords.{DataRecord, IsDataItem, record_octets}
 use Rattle.asterix_frame.specs.Bodies.{HasDataRecord, elements_at}
-use Rattle.asterix_frame.specs.Encoding.{RiseFrom, AreDataItems, item_of}
+use Rattle.asterix_frame.specs.Encoding.{RiseFrom, item_of}
 use Rattle.asterix_frame.proofs.Encodings.{is_compound}
 use Rattle.asterix_frame.proofs.Written.{three_written}
 use Rattle.cat062_out.specs.Tracks.{Stamp, IsStamp, TrackLine, IsTrackLine}
-use Rattle.cat062_out.specs.TrackRecords.{where_known, two_signed, three_signed, address_octets, status_octets, ages, ages_octets, accuracy_octets, status_items, track_items, track_record, IsTrack, items_of}
+use Rattle.cat062_out.specs.TrackRecords.{where_known, two_signed, address_octets, ages, ages_octets, accuracy_octets, status_items, track_items, track_record, IsTrack, items_of}
 use Rattle.cat062_out.specs.Reading.{stamp_of, line_of}
 use Rattle.cat062_out.specs.Profile.{written, BeginsValue, BeginsForeign}
 use Rattle.cat062_out.proofs.KnownItems.{rising, all_of}

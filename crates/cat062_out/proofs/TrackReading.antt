@@ -1,14 +1,13 @@
 -- The items of a track's record tell its stamp and its line.
-use Rattle.std.proofs.Common.{◌≡◌, ◌∙◌, ap, refl, ℕ, ◌+◌, ◌-◌, ◌<◌, ◌^◌, List, [], ◌∷◌, ◌++◌, arith, Option, Some, None}
+use Rattle.std.proofs.Common.{◌≡◌, ◌∙◌, ap, refl, ℕ, List, [], ◌∷◌, ◌++◌, arith, Some, None}
 use Rattle.std.specs.Option.{option_map, unwrap_or}
 use Rattle.asterix_frame.specs.Elements.{Element}
-use Rattle.asterix_frame.specs.Values.{big_endian, one_octet, three_octets}
-use Rattle.asterix_frame.specs.DataRecords.{item, item_octets, source_of, time_of}
-use Rattle.asterix_frame.specs.declared.tables.Uap.TheVariants.{Cat062}
+use Rattle.asterix_frame.specs.Values.{big_endian}
+use Rattle.asterix_frame.specs.DataRecords.{item, item_octets}
 use Rattle.asterix_frame.specs.Encoding.{item_of}
 use Rattle.cat062_out.specs.Tracks.{Stamp, IsStamp, TrackLine, IsTrackLine}
 use Rattle.cat062_out.specs.TrackRecords.{where_known, two_signed, three_signed, address_octets, status_octets, ages_octets, accuracy_octets, status_items, track_items}
-use Rattle.cat062_out.specs.Reading.{time_in_day, number_of, position_of, velocity_of, code_of, address_of, level_of, status_bit, ages_of, accuracy_of, stamp_of, line_of}
+use Rattle.cat062_out.specs.Reading.{number_of, position_of, velocity_of, code_of, address_of, level_of, status_bit, ages_of, accuracy_of, stamp_of, line_of}
 use Rattle.cat062_out.proofs.KnownItems.{past, found}
 use Rattle.cat062_out.proofs.Written.{number_back, time_back, position_back, velocity_back, code_back, level_back, address_back, accuracy_back, ages_back, mono_back, spi_back, ended_back, first_back, coast_back}
 

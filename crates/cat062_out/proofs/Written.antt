@@ -1,16 +1,16 @@
 -- What is written in the octets of an item is read of them.
-use Rattle.std.proofs.Common.{◌≡◌, ◌∙◌, ap, sym, refl, subst, suc, ℕ, ◌+◌, ◌-◌, ◌*◌, ◌^◌, ◌/◌, ◌%◌, ◌<◌, ◌≤◌, Bool, true, false, ◌==◌, List, [], ◌∷◌, ◌++◌, arith, Option, Some, None, ℤ, pos, negsuc}
+use Rattle.std.proofs.Common.{◌≡◌, ◌∙◌, ap, refl, ℕ, ◌+◌, ◌*◌, ◌^◌, ◌/◌, ◌%◌, ◌<◌, ◌≤◌, Bool, true, false, ◌==◌, List, [], ◌∷◌, ◌++◌, arith, Option, Some, None, ℤ}
 use Rattle.std.specs.Prelude.{FitsSigned, if◌then◌else◌, nat_lt, is_some, ◌||◌}
 use Rattle.std.specs.Int.{w16, byte_at}
 use Rattle.std.specs.Option.{ForSome, option_map, unwrap_or}
-use Rattle.std.proofs.lemmas.Bool.{lt-ltb, le-ltb}
+use Rattle.std.proofs.lemmas.Bool.{lt-ltb}
 use Rattle.trk_base.specs.Numbers.{day}
 use Rattle.trk_base.specs.Ranges.{IsTimeOfDay, IsCode, IsAddress}
-use Rattle.asterix_frame.specs.Values.{big_endian, from_two, from_three, two_octets, three_octets, signed, has_bit}
+use Rattle.asterix_frame.specs.Values.{big_endian, from_two, from_three, three_octets, signed, has_bit}
 use Rattle.asterix_frame.specs.Encoding.{bit, field_octet, field_of, compound_of}
 use Rattle.asterix_frame.specs.Elements.{Element}
-use Rattle.cat062_out.specs.Tracks.{TrackLine, IsPosition, IsAge}
-use Rattle.cat062_out.specs.TrackRecords.{where_known, complement, two_signed, three_signed, is_old, address_octets, sighting_octet, span_octet, coasting_octet, status_octets, ages_octets, accuracy_octets}
+use Rattle.cat062_out.specs.Tracks.{TrackLine, IsPosition}
+use Rattle.cat062_out.specs.TrackRecords.{where_known, complement, two_signed, three_signed, is_old, address_octets, status_octets, ages_octets, accuracy_octets}
 use Rattle.cat062_out.specs.Reading.{time_in_day, number_of, position_of, velocity_of, in_code, code_of, address_of, level_of, status_bit, ages_of, accuracy_of}
 
 -- ---- numbers

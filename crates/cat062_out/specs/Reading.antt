@@ -1,11 +1,11 @@
 -- What the items of a record say, if it is the record of a track: bits that aren't looked at, and items that aren't there,
 -- are judged by writing the track again. An item that isn't there has no octets.
-use Rattle.std.specs.Prelude.{ℕ, ◌*◌, Bool, ◌==◌, nat_lt, if◌then◌else◌, List, [], ◌∷◌, Option, Some, None, ℤ, pos, slice_index}
-use Rattle.std.specs.Option.{option_map, unwrap_or}
+use Rattle.std.specs.Prelude.{ℕ, Bool, ◌==◌, nat_lt, if◌then◌else◌, List, [], ◌∷◌, Option, Some, None, ℤ, pos, slice_index}
+use Rattle.std.specs.Option.{unwrap_or}
 use Rattle.trk_base.specs.Numbers.{day}
 use Rattle.asterix_frame.specs.declared.tables.Uap.TheVariants.{Cat062}
 use Rattle.asterix_frame.specs.Elements.{Element}
-use Rattle.asterix_frame.specs.Values.{from_two, from_three, one_octet, two_octets, three_octets, has_bit, signed}
+use Rattle.asterix_frame.specs.Values.{from_two, from_three, one_octet, two_octets, has_bit, signed}
 use Rattle.asterix_frame.specs.DataRecords.{item_octets, source_of, time_of}
 use Rattle.cat062_out.specs.Tracks.{Stamp, TrackLine}
 

@@ -4,6 +4,7 @@
 
 mod error;
 mod items;
+mod laws;
 mod line;
 mod octets;
 mod reader;
@@ -12,6 +13,7 @@ mod values;
 mod writer;
 
 pub use error::ProfileError;
+pub use laws::{one_reading, one_track};
 pub use line::TrackLine;
 pub use reader::read062;
 pub use stamp::Stamp;

@@ -6,19 +6,13 @@ ghost use Rattle.cat062_out.specs.Tracks.{IsPosition};
 ghost use Rattle.cat062_out.specs.TrackRecords.{is_old, three_signed, two_signed, address_octets, status_octets, ages_octets, accuracy_octets};
 
 use crate::TrackLine;
+use crate::items::{MDS, PSR, SSR};
 
 // Bit 1 of an octet: another follows.
 const FX: u8 = 0x01;
 
 // I062/380: the primary field's bit of ADR, the address.
 const ADR: u8 = 0x80;
-
-// I062/290: the primary field's bits of the ages.
-const PSR: u8 = 0x40;
-
-const SSR: u8 = 0x20;
-
-const MDS: u8 = 0x10;
 
 // I062/500: the primary field's bit of APC, the accuracy of the position.
 const APC: u8 = 0x80;
@@ -77,9 +71,12 @@ pub(crate) fn status_octets(line: &TrackLine) -> [u8; 4]
     ensures { result ≡ status_octets line.now }
 {
     [
+        // MON and SPI
         128 * bit(line.mono) + 64 * bit(line.spi) + FX,
+        // TSE and TSB
         64 * bit(line.ended) + 32 * bit(line.first) + FX,
         FX,
+        // CST, PSR, SSR, MDS and ADS
         128 * bit(line.coast)
             + 64 * bit(is_old(line.psr))
             + 32 * bit(is_old(line.ssr))

@@ -10,10 +10,11 @@ ghost use Rattle.cat062_out.specs.Profile.{AreWritten, IsRefusal, BeginsValue, B
 ghost use Rattle.cat062_out.specs.Answers.{AnswersWith, RefusesWith, IfRefused};
 
 use crate::items::{
-    ACCURACY, AGES, AIRCRAFT, CODE, LEVEL, NUMBER, POSITION, SERVICE, STATUS, VELOCITY,
+    ACCURACY, AGES, AIRCRAFT, CODE, CST, LEVEL, MON, NUMBER, POSITION, SERVICE, SPI, STATUS, TSB,
+    TSE, VELOCITY,
 };
 use crate::values::{
-    accuracy_of, address_of, ages_of, code_of, level_of, number_of, position_of, status_bit,
+    accuracy_of, address_of, ages_of, code_of, has_flag, level_of, number_of, position_of,
     time_in_day, velocity_of,
 };
 use crate::writer::track_record;
@@ -106,11 +107,11 @@ fn line_of(body: &[u8], items: &ItemSpans) -> TrackLine
         psr,
         ssr,
         mds,
-        mono: status_bit(status, 0, 8),
-        spi: status_bit(status, 0, 7),
-        coast: status_bit(status, 3, 8),
-        first: status_bit(status, 1, 6),
-        ended: status_bit(status, 1, 7),
+        mono: has_flag(status, MON),
+        spi: has_flag(status, SPI),
+        coast: has_flag(status, CST),
+        first: has_flag(status, TSB),
+        ended: has_flag(status, TSE),
         sx,
         sy,
     }

@@ -6,6 +6,7 @@ ghost use Rattle.asterix_frame.specs.Values.{from_three, signed};
 ghost use Rattle.cat062_out.specs.Tracks.{IsPosition};
 ghost use Rattle.cat062_out.specs.Reading.{time_in_day, number_of, position_of, velocity_of, code_of, address_of, level_of, status_bit, one_age, two_ages, ages_of, accuracy_of};
 
+use crate::items::{Flag, MDS, PSR, SSR};
 use asterix_frame::{has_bit, three_octets, two_octets};
 use trk_base::DAY;
 
@@ -95,15 +96,15 @@ pub(crate) fn level_of(octets: &[u8]) -> Option<i16>
     }
 }
 
-// A bit of I062/080, in the octet with that index, counted as the standard does: 1 is the lowest.
-pub(crate) fn status_bit(octets: &[u8], index: usize, bit: u32) -> bool
-    requires some { 1 ≤ bit }
-    requires within { bit ≤ 8 }
-    ensures { result ≡ status_bit octets.now index bit }
+// Whether a flag of I062/080 is set.
+pub(crate) fn has_flag(octets: &[u8], flag: Flag) -> bool
+    requires some { 1 ≤ flag.bit }
+    requires within { flag.bit ≤ 8 }
+    ensures { result ≡ status_bit octets.now flag.octet flag.bit }
 {
     octets
-        .get(index)
-        .is_some_and(|octet| has_bit(u16::from(*octet), bit))
+        .get(flag.octet)
+        .is_some_and(|octet| has_bit(u16::from(*octet), flag.bit))
 }
 
 // I062/290.
@@ -123,9 +124,9 @@ fn one_age(field: u8, age: u8) -> Ages
     ensures value { result ≡ one_age field age }
     ensures detected { (is_some result.0 || is_some result.1.0 || is_some result.1.1) ≡ true }
 {
-    if field == 0x40 {
+    if field == PSR {
         (Some(age), (None, None))
-    } else if field == 0x20 {
+    } else if field == SSR {
         (None, (Some(age), None))
     } else {
         (None, (None, Some(age)))
@@ -136,9 +137,9 @@ fn two_ages(field: u8, one: u8, other: u8) -> Ages
     ensures value { result ≡ two_ages field one other }
     ensures detected { (is_some result.0 || is_some result.1.0 || is_some result.1.1) ≡ true }
 {
-    if field == 0x60 {
+    if field == PSR | SSR {
         (Some(one), (Some(other), None))
-    } else if field == 0x50 {
+    } else if field == PSR | MDS {
         (Some(one), (None, Some(other)))
     } else {
         (None, (Some(one), Some(other)))

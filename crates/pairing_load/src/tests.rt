@@ -69,10 +69,10 @@ const COSTS: [[u16; 9]; 2] = [
 ];
 
 // Whether a record is certificate number k, or the edition where k is none, and proves its pairing.
-fn is_load_record(record: &PriceRecord, k: Option<usize>) -> bool
-    requires { IsRecord record.now }
+fn is_load_record(found: &PriceRecord, k: Option<usize>) -> bool
+    requires { IsRecord found.now }
 {
-    match (record, k) {
+    match (found, k) {
         (PriceRecord::Edition { number, cut }, None) => (*number, *cut) == (1, 0),
         (PriceRecord::Cert { cert, .. }, Some(k)) => {
             let mut drawn = true;

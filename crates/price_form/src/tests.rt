@@ -69,10 +69,10 @@ fn judged(alloc: Global, file: &[u8]) -> Option<bool> {
 }
 
 // A record in octets; a certificate is copied first.
-fn record_octets(alloc: Global, record: &PriceRecord) -> Option<Vec<u8>>
-    requires { IsRecord record.now }
+fn record_octets(alloc: Global, written: &PriceRecord) -> Option<Vec<u8>>
+    requires { IsRecord written.now }
 {
-    match record {
+    match written {
         PriceRecord::Edition { number, cut } => write_edition(alloc, *number, *cut).ok(),
         PriceRecord::Cert { cert, .. } => {
             let copy = cert.copy(alloc).ok()?;

@@ -1,13 +1,7 @@
 -- A step over the digits of an angle.
-use Rattle.std.proofs.Common.{◌≡◌, ◌∙◌, ap, sym, refl, ℕ, suc, ◌+◌, ◌-◌, ◌*◌, ◌%◌, ◌^◌, ◌<◌, ◌≤◌, true, false, cond, List, map, get_or, arith, ℤ, pos}
-use Rattle.std.specs.List.{range_with_len}
-use Rattle.std.proofs.lemmas.List.FromFn.{get_or-map-range_with_len}
-use Rattle.std.proofs.lemmas.Nat.{pow_pos}
+use Rattle.std.proofs.Common.{◌≡◌, ◌∙◌, ap, sym, refl, ℕ, suc, ◌+◌, ◌-◌, ◌*◌, ◌%◌, ◌^◌, ◌<◌, ◌≤◌, true, false, cond, arith, ℤ, pos}
 use Rattle.std.proofs.Math.Nat.{pow-succ'}
 use Rattle.scene_gen.specs.Bearings.{bearing_from, direction, lies_on}
-
-pub direction_at : (n : ℕ) {ds : List (ℤ × ℤ)} {i : ℕ} → ds ≡ map direction (range_with_len 0 65536) → i ≡ n → n < 65536 → get_or ds i (pos 0, pos 0) ≡ direction n
-direction_at n {ds} {i} made at lt = (λ j. get_or (made j) (at j) (pos 0, pos 0)) ∙ get_or-map-range_with_len direction 0 65536 n n (pos 0, pos 0) lt (omega arith)
 
 step : (k angle : ℕ) (x y : ℤ) → bearing_from (suc k) angle x y ≡ bearing_from k (cond (lies_on (direction (angle + 2 ^ k)) x y) (angle + 2 ^ k) angle) x y
 unfolding bearing_from
@@ -22,9 +16,6 @@ halves k h = ap (λ (n : ℕ). 2 ^ n) (before k h) ∙ pow-succ' 2 (k - 1)
 -- what the code adds for the digit
 pub next_is : (k angle : ℕ) → 0 < k → angle + 2 ^ k ≤ 65536 → angle + 1 * 2 ^ (k - 1) % 65536 ≡ angle + 2 ^ (k - 1)
 next_is k angle h room = omega (arith, halves k h)
-
-pub next_below : (k angle : ℕ) → 0 < k → angle + 2 ^ k ≤ 65536 → angle + 2 ^ (k - 1) < 65536
-next_below k angle h room = omega (arith, halves k h, pow_pos (k - 1))
 
 -- the room that stays
 pub room_set : (k angle : ℕ) → 0 < k → angle + 2 ^ k ≤ 65536 → angle + 1 * 2 ^ (k - 1) % 65536 + 2 ^ (k - 1) ≤ 65536

@@ -13,3 +13,4 @@ pub mod Marking
 pub mod Runs
 pub mod FleetPhases
 pub mod Playing
+pub mod Making

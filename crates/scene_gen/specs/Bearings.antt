@@ -1,5 +1,5 @@
 -- In which direction a point lies, in 360/65,536 degrees clockwise from north.
-use Rattle.std.specs.Prelude.{ℕ, zero, suc, ◌+◌, ◌^◌, Bool, ◌&&◌, if◌then◌else◌, ℤ, pos, ◌-ℤ◌, ◌*ℤ◌, int_lt, int_le}
+use Rattle.std.specs.Prelude.{◌≡◌, ℕ, zero, suc, ◌+◌, ◌^◌, Bool, ◌&&◌, if◌then◌else◌, List, length, get_or, Option, Some, None, ℤ, pos, ◌-ℤ◌, ◌*ℤ◌, int_lt, int_le}
 use Rattle.std.specs.Ordering.{int_eq}
 use Rattle.plot_geometry.specs.Turns.{rotated}
 
@@ -27,3 +27,8 @@ bearing_from (suc k) angle x y = bearing_from k (if lies_on (direction (angle + 
 -- the angle of a point, by its 14 binary digits from the quarter turn on; 0 for the origin
 unfoldable pub bearing : ℤ → ℤ → ℕ
 bearing x y = if int_eq x (pos 0) && int_eq y (pos 0) then 0 else bearing_from 14 (quarter x y) x y
+
+-- What the program keeps: the directions that are made already, by their angles.
+pub record AreDirections (made : List (Option (ℤ × ℤ))) : Type 0 where
+  pub count : length made ≡ 65536
+  pub right : (angle : ℕ) (d : ℤ × ℤ) → get_or made angle None ≡ Some d → d ≡ direction angle

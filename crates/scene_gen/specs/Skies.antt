@@ -1,10 +1,9 @@
 -- How far the program has come: what was seen, and what is on its way. Times are in 1/128 s since the start.
-use Rattle.std.specs.Prelude.{◌≡◌, ℕ, ◌*◌, min, List, length, map, flat_map}
+use Rattle.std.specs.Prelude.{◌≡◌, ℕ, ◌*◌, min, List, length, flat_map}
 use Rattle.std.specs.List.{All, range_with_len}
 use Rattle.rand_pcg.specs.Lcg.{Lcg}
 use Rattle.scene_gen.specs.declared.fleet.Aircraft.{Aircraft}
 use Rattle.scene_gen.specs.declared.sky.Sky.{Sky}
-use Rattle.scene_gen.specs.Bearings.{direction}
 use Rattle.scene_gen.specs.Delays.{Plot, after_delays, delayed}
 use Rattle.scene_gen.specs.OnWay.{AreOnWay}
 use Rattle.scene_gen.specs.Scenes.{plots_of, second, seen_at}
@@ -17,7 +16,6 @@ seen_before aircraft seconds time = flat_map (λ t. plots_of t (seen_at aircraft
 -- what every call needs
 pub record IsReady (s : Sky) : Type 0 where
   pub sweeps : All IsWhole s.sweeps.items
-  pub directions : s.directions.items ≡ map direction (range_with_len 0 65536)
   pub count : length s.on_way ≡ 1088
 
 -- The plots that were seen before one time are drawn, from a generator on, and those that come from another time on are on their way.

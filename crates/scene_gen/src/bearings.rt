@@ -1,10 +1,10 @@
 // In which direction a point lies, in 360/65,536 degrees clockwise from north.
-ghost use Rattle.std.specs.Prelude.{◌≡◌, ◌≤◌, ◌+◌, ◌^◌, IfOk, map, unsigned_abs};
-ghost use Rattle.std.specs.List.{range_with_len};
+ghost use Rattle.std.specs.Prelude.{◌≡◌, ◌≤◌, ◌+◌, ◌^◌, unsigned_abs};
 ghost use Rattle.scene_gen.specs.Bearings.{bearing, bearing_from, direction, lies_on, quarter};
 
 use plot_geometry::rotate;
 use std::alloc::Global;
+use std::marker::Model;
 use trk_base::NoMemory;
 
 /// A point of the plane: to the east and to the north.
@@ -16,16 +16,47 @@ const ANGLES: usize = 1 << 16;
 /// The binary digits of an angle within a quarter turn.
 const DIGITS: u32 = 14;
 
-/// The directions of all angles, each as a point 2^20 from the origin. They are made once, since a
-/// bearing looks at 14 of them.
-pub(crate) fn directions(alloc: Global) -> Result<Vec<Point>, NoMemory>
-    ensures { IfOk result (λ v. v.items ≡ map direction (range_with_len 0 65536)) }
-{
-    let mut directions = Vec::with_capacity(alloc, ANGLES)?;
-    for angle in 0..ANGLES {
-        directions.push(rotate(angle as u16, 1 << 20))?;
+/// The directions of angles, each as a point 2^20 from the origin. One is made when it is first
+/// asked for, and kept: a bearing asks for 14 of them.
+#[derive(Drop)]
+pub(crate) struct Directions {
+    // Those that are made, by their angles.
+    made: Vec<Option<Point>>,
+}
+
+impl Model for Directions {
+    ghost use Rattle.std.specs.Prelude.{⊤};
+    ghost use Rattle.scene_gen.specs.Bearings.{AreDirections};
+
+    ghost Value = { ⊤ };
+
+    ghost view = { λ d. tt };
+
+    ghost invariant = { λ d. AreDirections d.made.items };
+}
+
+impl Directions {
+    /// None is made yet.
+    pub fn new(alloc: Global) -> Result<Directions, NoMemory> {
+        let mut made = Vec::with_capacity(alloc, ANGLES)?;
+        for _ in 0..ANGLES {
+            made.push(None)?;
+        }
+        Ok(Directions { made })
     }
-    Ok(directions)
+
+    /// The direction of an angle.
+    fn of(&mut self, angle: u16) -> Point
+        ensures { result ≡ direction angle }
+    {
+        let index = usize::from(angle);
+        if let Some(point) = self.made[index] {
+            return point;
+        }
+        let point = rotate(angle, 1 << 20);
+        self.made[index] = Some(point);
+        point
+    }
 }
 
 // The quarter turn from which on a point lies.
@@ -57,8 +88,7 @@ fn lies_on(direction: Point, point: Point) -> bool
 }
 
 // The angle of a point from a quarter turn on, digit by digit.
-fn bearing_from(directions: &[Point], start: u16, point: Point) -> u16
-    requires directions { directions.now ≡ map direction (range_with_len 0 65536) }
+fn bearing_from(directions: &mut Directions, start: u16, point: Point) -> u16
     requires whole { start + 2 ^ 14 ≤ 2 ^ 16 }
     requires x { unsigned_abs point.0 ≤ 2 ^ 54 }
     requires y { unsigned_abs point.1 ≤ 2 ^ 54 }
@@ -67,16 +97,15 @@ fn bearing_from(directions: &[Point], start: u16, point: Point) -> u16
     let mut angle = start;
     for k in (0..DIGITS).rev() {
         let next = angle + (1 << k);
-        if lies_on(directions[usize::from(next)], point) {
+        if lies_on(directions.of(next), point) {
             angle = next;
         }
     }
     angle
 }
 
-/// The direction of a point, of those of all angles; 0 for the origin.
-pub(crate) fn bearing(directions: &[Point], point: Point) -> u16
-    requires directions { directions.now ≡ map direction (range_with_len 0 65536) }
+/// The angle of a point; 0 for the origin.
+pub(crate) fn bearing(directions: &mut Directions, point: Point) -> u16
     requires x { unsigned_abs point.0 ≤ 2 ^ 54 }
     requires y { unsigned_abs point.1 ≤ 2 ^ 54 }
     ensures { result ≡ bearing point.0 point.1 }

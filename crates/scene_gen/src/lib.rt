@@ -8,6 +8,7 @@ mod datagrams;
 mod delays;
 mod draws;
 mod fleet;
+mod laws;
 mod radars;
 mod scenes;
 mod sightings;
@@ -16,5 +17,6 @@ mod sweeps;
 #[cfg(test)]
 mod tests;
 
+pub use laws::one_list_of_radars;
 pub use radars::{RADARS, SceneRadar};
 pub use scenes::scene;

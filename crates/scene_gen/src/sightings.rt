@@ -1,11 +1,9 @@
 // What a radar measures of an aircraft.
-ghost use Rattle.std.specs.Prelude.{◌≡◌, ◌≤◌, ◌^◌, map, unsigned_abs, option_map};
-ghost use Rattle.std.specs.List.{range_with_len};
-ghost use Rattle.scene_gen.specs.Bearings.{direction};
+ghost use Rattle.std.specs.Prelude.{◌≡◌, ◌≤◌, ◌^◌, unsigned_abs, option_map};
 ghost use Rattle.scene_gen.specs.Answers.{polar_of};
 ghost use Rattle.scene_gen.specs.Sightings.{coordinate, height, range, sighting, slant};
 
-use crate::bearings::{Point, bearing};
+use crate::bearings::{Directions, Point, bearing};
 use crate::fleet::Aircraft;
 use crate::radars::SceneRadar;
 use trk_base::{isqrt, round_div};
@@ -73,15 +71,13 @@ fn position(radar: &SceneRadar, aircraft: &Aircraft, time: u32) -> Point
     )
 }
 
-/// What the radar measures of the aircraft at a time in 1/128 s since the start, with the
-/// directions of all angles.
+/// What the radar measures of the aircraft at a time in 1/128 s since the start.
 pub(crate) fn sighting(
-    directions: &[Point],
+    directions: &mut Directions,
     radar: &SceneRadar,
     aircraft: &Aircraft,
     time: u32,
 ) -> Option<Polar>
-    requires { directions.now ≡ map direction (range_with_len 0 65536) }
     ensures { option_map polar_of result ≡ sighting radar.now time aircraft.now }
 {
     let point = position(radar, aircraft, time);

@@ -10,7 +10,7 @@ ghost use Rattle.scene_gen.specs.Scenes.{come_at};
 ghost use Rattle.scene_gen.specs.Skies.{IsReady, IsSky, seen_before};
 ghost use Rattle.scene_gen.specs.Sweeps.{HavePhases};
 
-use crate::bearings::{Point, directions};
+use crate::bearings::Directions;
 use crate::datagrams::PlotOctets;
 use crate::delays::{OnWay, none_on_way, send, take_at};
 use crate::fleet::Aircraft;
@@ -26,7 +26,7 @@ pub(crate) struct Sky {
     pub seconds: u16,
     pub late: u8,
     pub sweeps: Vec<Sweep>,
-    pub directions: Vec<Point>,
+    pub directions: Directions,
     pub generator: Pcg32,
     pub on_way: OnWay,
     // The plots of one time; its room serves the next.
@@ -50,7 +50,7 @@ impl Sky {
             seconds,
             late,
             sweeps: sweeps_of(alloc, fleet)?,
-            directions: directions(alloc)?,
+            directions: Directions::new(alloc)?,
             generator,
             on_way: none_on_way(alloc)?,
             plots: Vec::new(alloc),
@@ -65,7 +65,7 @@ impl Sky {
         ensures seen { (fleet : List Aircraft) (g : Lcg) (seconds late : ℕ) → IsSky fleet g seconds late time time self.old → OnOk result (IsSky fleet g seconds late (time + 1) time self.new) }
     {
         if time < SECOND * u32::from(self.seconds) {
-            look_at(&self.sweeps, &self.directions, time, &mut self.plots)?;
+            look_at(&self.sweeps, &mut self.directions, time, &mut self.plots)?;
             send(
                 &self.plots,
                 time,

@@ -1,12 +1,11 @@
 // What the radars see, turn by turn.
 ghost use Rattle.std.specs.Prelude.{◌≡◌, ◌++◌, map, get_or, IfOk, OnOk};
-ghost use Rattle.std.specs.List.{All, flat_map, range_with_len};
+ghost use Rattle.std.specs.List.{All, flat_map};
 ghost use Rattle.recording.specs.Items.{item_octets};
-ghost use Rattle.scene_gen.specs.Bearings.{direction};
 ghost use Rattle.scene_gen.specs.Radars.{radars};
 ghost use Rattle.scene_gen.specs.Sweeps.{AreSweeps, HasByPhase, HavePhases, IsRadar, IsWhole, seen_by};
 
-use crate::bearings::Point;
+use crate::bearings::Directions;
 use crate::buckets::Buckets;
 use crate::datagrams::{PlotOctets, plot_octets};
 use crate::fleet::Aircraft;
@@ -42,12 +41,11 @@ impl Sweep {
     // Puts the plots of a time behind those that are there.
     fn look(
         &self,
-        directions: &[Point],
+        directions: &mut Directions,
         time: u32,
         plots: &mut Vec<PlotOctets>,
     ) -> Result<(), NoMemory>
-        requires whole { IsWhole self.now }
-        requires directions { directions.now ≡ map direction (range_with_len 0 65536) }
+        requires { IsWhole self.now }
         ensures { OnOk result (plots.new.items ≡ plots.old.items ++ map item_octets (seen_by time self.now)) }
     {
         for aircraft in self.by_phase.at((time % self.radar.period) as usize) {
@@ -75,12 +73,11 @@ pub(crate) fn sweeps_of(alloc: Global, fleet: &[Aircraft]) -> Result<Vec<Sweep>,
 /// They take the place of those that were there.
 pub(crate) fn look_at(
     sweeps: &[Sweep],
-    directions: &[Point],
+    directions: &mut Directions,
     time: u32,
     plots: &mut Vec<PlotOctets>,
 ) -> Result<(), NoMemory>
-    requires whole { All IsWhole sweeps.now }
-    requires directions { directions.now ≡ map direction (range_with_len 0 65536) }
+    requires { All IsWhole sweeps.now }
     ensures { OnOk result (plots.new.items ≡ map item_octets (flat_map (seen_by time) sweeps.now)) }
 {
     plots.clear();

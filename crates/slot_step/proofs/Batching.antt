@@ -18,12 +18,12 @@ Below n [] = Unit {0}
 Below n (None ∷ xs) = Below n xs
 Below n (Some j ∷ xs) = (j < n) × Below n xs
 
-abbrev Unnamed : {P : Type 0} → ℕ → List (P × Option ℕ) → Type 0
+abbrev pub Unnamed : {P : Type 0} → ℕ → List (P × Option ℕ) → Type 0
 Unnamed i [] = Unit {0}
 Unnamed i ((p, None) ∷ es) = Unnamed i es
 Unnamed i ((p, Some j) ∷ es) = (j ≢ i) × Unnamed i es
 
-eqb_not : (i j : ℕ) → i ≢ j → eqb i j ≡ false
+pub eqb_not : (i j : ℕ) → i ≢ j → eqb i j ≡ false
 eqb_not i j n = cond_both (eqb i j) true false (λ b. eqb i j ≡ b → eqb i j ≡ false) (λ t q. absurd (n (eqb-true i j t))) (λ t q. t) (is_cond (eqb i j))
   where
     is_cond : (b : Bool) → b ≡ cond b true false

@@ -36,65 +36,65 @@ use Rattle.slot_step.proofs.Problems.{one_at, of_edges, problem_rows}
 use Rattle.slot_step.proofs.Certifying.{within, at_contains, some_is}
 use Rattle.slot_step.proofs.Tables.{keys_differ}
 
-all_at : {X : Type 0} (Q : X → Type 0) (xs : List X) (i : ℕ) (x : X) → All Q xs → IsAt xs i x → Q x
+pub all_at : {X : Type 0} (Q : X → Type 0) (xs : List X) (i : ℕ) (x : X) → All Q xs → IsAt xs i x → Q x
 all_at Q [] i x a h = absurd h
 all_at Q (y ∷ xs) zero x a h = subst Q h (a 0 y (omega arith))
 all_at Q (y ∷ xs) (suc i) x a h = all_at Q xs i x (λ j d lt. a (suc j) d (omega (arith, lt))) h
 
-at_map : {X Y : Type 0} (f : X → Y) (d : Y) (xs : List X) (i : ℕ) (x : X) → IsAt xs i x → get_or (map f xs) i d ≡ f x
+pub at_map : {X Y : Type 0} (f : X → Y) (d : Y) (xs : List X) (i : ℕ) (x : X) → IsAt xs i x → get_or (map f xs) i d ≡ f x
 at_map f d [] i x h = absurd h
 at_map f d (y ∷ xs) zero x h = ap f h
 at_map f d (y ∷ xs) (suc i) x h = at_map f d xs i x h
 
-at_get : {X : Type 0} (d : X) (xs : List X) (i : ℕ) (x : X) → IsAt xs i x → get_or xs i d ≡ x
+pub at_get : {X : Type 0} (d : X) (xs : List X) (i : ℕ) (x : X) → IsAt xs i x → get_or xs i d ≡ x
 at_get d [] i x h = absurd h
 at_get d (y ∷ xs) zero x h = h
 at_get d (y ∷ xs) (suc i) x h = at_get d xs i x h
 
-get_at : {X : Type 0} (d : X) (xs : List X) (i : ℕ) → i < length xs → IsAt xs i (get_or xs i d)
+pub get_at : {X : Type 0} (d : X) (xs : List X) (i : ℕ) → i < length xs → IsAt xs i (get_or xs i d)
 get_at d [] i h = absurd (omega (arith, h))
 get_at d (y ∷ xs) zero h = refl
 get_at d (y ∷ xs) (suc i) h = get_at d xs i (omega (arith, h))
 
-at_from : {X : Type 0} (xs : List X) (x : X) → Contains xs x → (i : ℕ) × IsAt xs i x
+pub at_from : {X : Type 0} (xs : List X) (x : X) → Contains xs x → (i : ℕ) × IsAt xs i x
 at_from [] x c = contains_none x c
 at_from (y ∷ xs) x c = elim (contains_cons y x xs c) [
   | inl e ↦ (0, e)
   | inr d ↦ let r : (i : ℕ) × IsAt xs i x = at_from xs x d in (suc r.0, r.1)
 ]
 
-map_at : {X Y : Type 0} (f : X → Y) (xs : List X) (i : ℕ) (x : X) → IsAt xs i x → IsAt (map f xs) i (f x)
+pub map_at : {X Y : Type 0} (f : X → Y) (xs : List X) (i : ℕ) (x : X) → IsAt xs i x → IsAt (map f xs) i (f x)
 map_at f [] i x h = absurd h
 map_at f (y ∷ xs) zero x h = ap f h
 map_at f (y ∷ xs) (suc i) x h = map_at f xs i x h
 
-of_map : {X Y : Type 0} (f : X → Y) (xs : List X) (i : ℕ) (y : Y) → IsAt (map f xs) i y → (x : X) × IsAt xs i x × (f x ≡ y)
+pub of_map : {X Y : Type 0} (f : X → Y) (xs : List X) (i : ℕ) (y : Y) → IsAt (map f xs) i y → (x : X) × IsAt xs i x × (f x ≡ y)
 of_map f [] i y h = absurd h
 of_map f (x ∷ xs) zero y h = (x, refl, h)
 of_map f (x ∷ xs) (suc i) y h = of_map f xs i y h
 
 -- what stands beside in two lists
-zip_back : {X Y : Type 0} (R : X → Y → Type 0) (xs : List X) (ys : List Y) → AllZip R xs ys → (m : ℕ) (y : Y) → IsAt ys m y → (x : X) × IsAt xs m x × R x y
+pub zip_back : {X Y : Type 0} (R : X → Y → Type 0) (xs : List X) (ys : List Y) → AllZip R xs ys → (m : ℕ) (y : Y) → IsAt ys m y → (x : X) × IsAt xs m x × R x y
 zip_back R [] [] z m y h = absurd h
 zip_back R [] (b ∷ ys) z m y h = absurd z
 zip_back R (a ∷ xs) [] z m y h = absurd z
 zip_back R (a ∷ xs) (b ∷ ys) z zero y h = (a, refl, subst (R a) h z.0)
 zip_back R (a ∷ xs) (b ∷ ys) z (suc m) y h = zip_back R xs ys z.1 m y h
 
-zip_there : {X Y : Type 0} (R : X → Y → Type 0) (xs : List X) (ys : List Y) → AllZip R xs ys → (m : ℕ) (x : X) → IsAt xs m x → (y : Y) × IsAt ys m y × R x y
+pub zip_there : {X Y : Type 0} (R : X → Y → Type 0) (xs : List X) (ys : List Y) → AllZip R xs ys → (m : ℕ) (x : X) → IsAt xs m x → (y : Y) × IsAt ys m y × R x y
 zip_there R [] [] z m x h = absurd h
 zip_there R [] (b ∷ ys) z m x h = absurd z
 zip_there R (a ∷ xs) [] z m x h = absurd z
 zip_there R (a ∷ xs) (b ∷ ys) z zero x h = (b, refl, subst (λ c. R c b) h z.0)
 zip_there R (a ∷ xs) (b ∷ ys) z (suc m) x h = zip_there R xs ys z.1 m x h
 
-zip_length : {X Y : Type 0} (R : X → Y → Type 0) (xs : List X) (ys : List Y) → AllZip R xs ys → length ys ≡ length xs
+pub zip_length : {X Y : Type 0} (R : X → Y → Type 0) (xs : List X) (ys : List Y) → AllZip R xs ys → length ys ≡ length xs
 zip_length R [] [] z = refl
 zip_length R [] (b ∷ ys) z = absurd z
 zip_length R (a ∷ xs) [] z = absurd z
 zip_length R (a ∷ xs) (b ∷ ys) z = ap suc (zip_length R xs ys z.1)
 
-zip_made : {X Y : Type 0} (R : X → Y → Type 0) (xs : List X) (ys : List Y) → length ys ≡ length xs → ((m : ℕ) (x : X) (y : Y) → IsAt xs m x → IsAt ys m y → R x y) → AllZip R xs ys
+pub zip_made : {X Y : Type 0} (R : X → Y → Type 0) (xs : List X) (ys : List Y) → length ys ≡ length xs → ((m : ℕ) (x : X) (y : Y) → IsAt xs m x → IsAt ys m y → R x y) → AllZip R xs ys
 zip_made R [] [] l f = tt
 zip_made R [] (b ∷ ys) l f = absurd (omega (arith, l))
 zip_made R (a ∷ xs) [] l f = absurd (omega (arith, l))
@@ -107,12 +107,12 @@ sorted_at cmp (z ∷ xs) s i zero x y l h g = absurd (omega (arith, l))
 sorted_at cmp (z ∷ xs) s zero (suc j) x y l h g = subst (λ w. cmp w y ≡ Less) h (all_contains (λ w. cmp z w ≡ Less) y xs s.0 (at_contains xs j y g))
 sorted_at cmp (z ∷ xs) s (suc i) (suc j) x y l h g = sorted_at cmp xs s.1 i j x y (omega (arith, l)) h g
 
-rest_rises : (x : ℕ) (xs : List ℕ) → IsStrictlyIncreasing (x ∷ xs) → IsStrictlyIncreasing xs
+pub rest_rises : (x : ℕ) (xs : List ℕ) → IsStrictlyIncreasing (x ∷ xs) → IsStrictlyIncreasing xs
 rest_rises x xs up k lt =
     let e : suc k + 1 ≡ suc (k + 1) = omega arith in
     subst (λ m. get_or xs k 0 < get_or (x ∷ xs) m 0) e (up (suc k) (omega (arith, lt)))
 
-later : (i : ℕ) (is : List ℕ) → IsStrictlyIncreasing (i ∷ is) → (j : ℕ) → Contains is j → i < j
+pub later : (i : ℕ) (is : List ℕ) → IsStrictlyIncreasing (i ∷ is) → (j : ℕ) → Contains is j → i < j
 later i is up j c = omega (arith, rises_far (i ∷ is) up 0 (suc c.0) (omega arith) (omega (arith, c.1)), get_or_default is c.0 0 j c.1, c.2)
 
 -- items at rising indices of a rising list rise
@@ -136,15 +136,15 @@ entry_at (q ∷ ps) (x ∷ xs) l zero p h = contains_first _ _ _ (ap (λ r. (r, 
 entry_at (q ∷ ps) (x ∷ xs) l (suc i) p h = contains_later _ _ _ (entry_at ps xs (omega (arith, l)) i p h)
 
 -- parts of a list of components
-abbrev plot_lists : List Component → List (List ℕ)
+abbrev pub plot_lists : List Component → List (List ℕ)
 plot_lists comps = map (λ c. c.plots) comps
 
-at_part : (comps : List Component) (i plot : ℕ) → Contains (part_at (plot_lists comps) i) plot → (c : Component) × IsAt comps i c × Contains c.plots plot
+pub at_part : (comps : List Component) (i plot : ℕ) → Contains (part_at (plot_lists comps) i) plot → (c : Component) × IsAt comps i c × Contains c.plots plot
 at_part [] i plot d = contains_none plot d
 at_part (c ∷ cs) zero plot d = (c, refl, d)
 at_part (c ∷ cs) (suc i) plot d = at_part cs i plot d
 
-part_is : (comps : List Component) (i : ℕ) (c : Component) → IsAt comps i c → part_at (plot_lists comps) i ≡ c.plots
+pub part_is : (comps : List Component) (i : ℕ) (c : Component) → IsAt comps i c → part_at (plot_lists comps) i ≡ c.plots
 part_is [] i c h = absurd h
 part_is (d ∷ cs) zero c h = ap (λ (e : Component). e.plots) h
 part_is (d ∷ cs) (suc i) c h = part_is cs i c h
@@ -158,7 +158,7 @@ least_in : (n : ℕ) (pairs : List (ℕ × ℕ)) (c : Component) → IsComponent
 least_in n pairs c h = Contains-get_or c.plots 0 0 h.some_plot
 
 -- a plot is of one component
-one_part : (n : ℕ) (pairs : List (ℕ × ℕ)) (comps : List Component) → AreComponents n pairs comps → (i j p : ℕ) (c d : Component) → IsAt comps i c → IsAt comps j d → Contains c.plots p → Contains d.plots p → i ≡ j
+pub one_part : (n : ℕ) (pairs : List (ℕ × ℕ)) (comps : List Component) → AreComponents n pairs comps → (i j p : ℕ) (c d : Component) → IsAt comps i c → IsAt comps j d → Contains c.plots p → Contains d.plots p → i ≡ j
 one_part n pairs comps h i j p c d a b hc hd =
     let ic : IsComponent n pairs c = all_at (IsComponent n pairs) comps i c h.each a in
     let id : IsComponent n pairs d = all_at (IsComponent n pairs) comps j d h.each b in

@@ -11,3 +11,17 @@ pub mod Problems
 pub mod Components
 pub mod Slotwise
 pub mod Tracker
+pub mod Edges
+pub mod Near
+pub mod Passing
+pub mod PartEdges
+pub mod PartProblem
+pub mod Telling
+pub mod Placing
+pub mod Paired
+pub mod Moves
+pub mod Slotted
+pub mod Batched
+pub mod Running
+pub mod Cutting
+pub mod Counted

@@ -73,7 +73,7 @@ module _ {T P K : Type 0} (k : Tracking T P) (o : Ordered T P K) (l : OrderLaws 
       record { table = m.1; births = all_of_both (λ x. o.slot (o.birth x) < n) s t (merged o s t) m.0 h.births g.births }
 
   -- born before the batch of radar r in slot n
-  abbrev Earlier : ℕ → ℕ → T → Type 0
+  abbrev pub Earlier : ℕ → ℕ → T → Type 0
   Earlier n r t = (o.slot (o.birth t) < n) ⊎ ((o.slot (o.birth t) ≡ n) × (o.radar (o.birth t) < r))
 
   pub record IsAtBatch (ts : List T) (n r : ℕ) : Type 0 where
@@ -142,7 +142,7 @@ module _ {T P K : Type 0} (k : Tracking T P) (o : Ordered T P K) (l : OrderLaws 
             (all_weaker (λ t. OfBatch n r (o.birth t)) (Earlier n (r + 1)) _ (λ t g. inr (g.0, omega (arith, g.1))) new);
       }
 
-  tables_at : (ts : List T) (ps : List P) (n : ℕ) → IsAtBatch ts n 0 → AreInSlot o n ps → ArePlots o ps → (r : ℕ) → IsAtBatch (table_at k (plot_radar o) ts ps r) n r
+  pub tables_at : (ts : List T) (ps : List P) (n : ℕ) → IsAtBatch ts n 0 → AreInSlot o n ps → ArePlots o ps → (r : ℕ) → IsAtBatch (table_at k (plot_radar o) ts ps r) n r
   unfolding table_at
   tables_at ts ps n a h up zero = a
   tables_at ts ps n a h up (suc r) =
@@ -153,7 +153,7 @@ module _ {T P K : Type 0} (k : Tracking T P) (o : Ordered T P K) (l : OrderLaws 
       (all_of (λ p. OfBatch n r (o.key p)) (of_radar (plot_radar o) r ps) (λ p c.
       (all_contains (λ p. plot_slot o p ≡ n) p ps h (in_filter (λ p. eqb (plot_radar o p) r) p ps c), eqb-true _ _ (filter_passes (λ p. eqb (plot_radar o p) r) p ps c)))))
 
-  start_at : (ts : List T) (n : ℕ) → IsBefore o ts n → IsAtBatch (unexpired o n ts) n 0
+  pub start_at : (ts : List T) (n : ℕ) → IsBefore o ts n → IsAtBatch (unexpired o n ts) n 0
   start_at ts n b = record {
     table = IsStrictlySortedBy-filter (by_birth o) (o.kept n) ts b.table;
     births = all_weaker (λ t. o.slot (o.birth t) < n) (Earlier n 0) _ (λ t h. inl h) (all_filter (λ t. o.slot (o.birth t) < n) (o.kept n) ts b.births);

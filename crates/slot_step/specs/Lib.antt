@@ -11,3 +11,7 @@ pub mod Tracker
 pub mod OneBatch
 pub mod Calls
 pub mod Told
+pub mod Gates
+pub mod PartGates
+pub mod ToldParts
+pub mod Moving

@@ -10,8 +10,9 @@ pub record Batch : Type 0 where
   pub radar : ℕ
   pub plots : List PlanePlot
 
--- at least one plot, all of this radar and of one slot, in strictly rising key
+-- at least one plot, all of this radar and of one slot, in strictly rising key; a radar's index is one octet
 pub record IsBatch (b : Batch) : Type 0 where
+  pub octet : b.radar < 256
   pub some : 0 < length b.plots
   pub rising : IsStrictlySortedBy (λ p q. key_cmp p.key q.key) b.plots
   pub of_radar : AllByRecursion (λ p. p.key.radar ≡ b.radar) b.plots

@@ -1,5 +1,5 @@
 -- The tracker's tracks and plots in the step of a slot.
-use Rattle.std.specs.Prelude.{ℕ, List}
+use Rattle.std.specs.Prelude.{ℕ, List, Option}
 use Rattle.trk_base.specs.declared.keys.Key.{Key}
 use Rattle.plot_geometry.specs.Plots.{PlanePlot}
 use Rattle.gating.specs.Gating.{gate}
@@ -12,9 +12,13 @@ use Rattle.slot_step.specs.Slots.{Ordered, run}
 use Rattle.slot_step.specs.Numbers.{Numbering, slot_step}
 use Rattle.slot_step.specs.Keyed.{keyed}
 
+-- the cost of pairing a track with a plot
+abbrev pub track_gate : TrackState → PlanePlot → Option ℕ
+track_gate t p = gate t.aim p
+
 -- a track gates, goes on and begins as these settings have it
 abbrev pub tracking : LifeSettings → Tracking TrackState PlanePlot
-tracking life = record { gate = λ t p. gate t.aim p; update = continued life.hits; begin = begun life.hits }
+tracking life = record { gate = track_gate; update = continued life.hits; begin = begun life.hits }
 
 -- tracks by birth and plots by key, in the one order of keys; a track expires when these settings say
 abbrev pub ordered : LifeSettings → Ordered TrackState PlanePlot Key

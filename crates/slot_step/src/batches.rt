@@ -1,9 +1,9 @@
 // What a slot's step takes in: batches of plots.
-ghost use Rattle.std.specs.Prelude.{◌≡◌, ℕ, IfOk};
+ghost use Rattle.std.specs.Prelude.{◌≡◌, ◌<◌, ℕ, length, IfOk};
 ghost use Rattle.std.specs.List.{AllByRecursion};
 ghost use Rattle.std.specs.List.Sorted.{IsStrictlySortedBy};
 ghost use Rattle.trk_base.specs.Keys.{key_cmp};
-ghost use Rattle.slot_step.specs.Calls.{AreBatches, plots_of};
+ghost use Rattle.slot_step.specs.Calls.{AreOfOneSlot, AreBatches, IsFirstBatch, plots_of};
 
 use plot_geometry::PlanePlot;
 use std::alloc::Global;
@@ -31,12 +31,36 @@ impl Model for Batch {
     ghost inverse = { λ b. record { radar = b.radar; plots = b.plots } };
 }
 
+// The plots of the first radar, which stand in front.
+fn first_batch(alloc: Global, plots: &[PlanePlot]) -> Result<Batch, NoMemory>
+    requires some { 0 < length plots.now }
+    requires rising { IsStrictlySortedBy (λ p q. key_cmp p.key q.key) plots.now }
+    requires slot { AreOfOneSlot plots.now }
+    ensures { IfOk result (λ batch. IsFirstBatch plots.now batch) }
+{
+    let first = &plots[0];
+    let radar = first.key.radar;
+    let count = plots.partition_point(|plot| plot.key.radar <= radar);
+    Ok(Batch {
+        radar,
+        plots: Sequence::of(Vec::from_slice(alloc, &plots[..count])?),
+    })
+}
+
 /// The batches of a slot's plots, which stand in strictly rising key: a batch for each radar that
 /// has plots.
 pub fn batches_of(alloc: Global, plots: &[PlanePlot]) -> Result<Vec<Batch>, NoMemory>
-    requires { IsStrictlySortedBy (λ p q. key_cmp p.key q.key) plots.now }
-    ensures plots { (slot : ℕ) → AllByRecursion (λ p. p.key.slot ≡ slot) plots.now → IfOk result (λ v. plots_of v.items ≡ plots.now) }
+    requires rising { IsStrictlySortedBy (λ p q. key_cmp p.key q.key) plots.now }
+    requires slot { AreOfOneSlot plots.now }
+    ensures plots { IfOk result (λ v. plots_of v.items ≡ plots.now) }
     ensures batches { (slot : ℕ) → AllByRecursion (λ p. p.key.slot ≡ slot) plots.now → IfOk result (λ v. AreBatches slot v.items) }
 {
-    Err(NoMemory)
+    let mut batches = Vec::new(alloc);
+    let mut from = 0;
+    while from < plots.len() {
+        let batch = first_batch(alloc, &plots[from..])?;
+        from += batch.plots.len();
+        batches.push(batch)?;
+    }
+    Ok(batches)
 }

@@ -8,11 +8,18 @@
 //! layers above rest on: a run in parts, a slot without plots, and numbers that no run reads.
 #![tactic(auto)]
 
+mod batch_step;
 mod batches;
 mod certs;
+mod gates;
 mod laws;
+mod moving;
+mod pairing;
+mod parts;
 mod reaching;
 mod slots;
+#[cfg(test)]
+mod tests;
 
 pub use batches::{Batch, batches_of};
 pub use certs::KeyedCert;

@@ -6,9 +6,10 @@ ghost use Rattle.slot_step.specs.Tracker.{run_tracks, step_tracks};
 ghost use Rattle.slot_step.specs.Calls.{AreBatches, AreFromBefore, plots_of};
 ghost use Rattle.slot_step.specs.Told.{AreTold};
 
+use crate::batch_step::step_batch;
 use crate::{Batch, KeyedCert};
 use std::alloc::Global;
-use track_life::{LifeSettings, Table};
+use track_life::{LifeSettings, Table, assign_numbers, expire};
 use trk_base::{NoMemory, Sequence, Ticket};
 
 /// What a slot's step gives: the table after the slot, and a certificate for each component of each
@@ -46,7 +47,33 @@ pub fn slot_run(
     ensures spent { ticket.new + 1 ≡ ticket.old }
 {
     ticket.spend();
-    Err(NoMemory)
+    run_batches(alloc, table, slot, batches, life)
+}
+
+// The run without its ticket.
+fn run_batches(
+    alloc: Global,
+    table: &Table,
+    slot: u64,
+    batches: &[Batch],
+    life: &LifeSettings,
+) -> Result<SlotRan, NoMemory>
+    requires batches { AreBatches slot batches.now }
+    requires earlier { AreFromBefore slot table.now }
+    ensures table { IfOk result (λ ran. ran.table ≡ run_tracks life.now table.now slot (plots_of batches.now)) }
+    ensures certs { IfOk result (λ ran. AreTold life.now table.now slot (plots_of batches.now) ran.certs) }
+    ensures whole { IfOk result (λ ran. AllByRecursion (λ c. IsCert c.cert) ran.certs) }
+    ensures before { IfOk result (λ ran. AreFromBefore (slot + 1) ran.table) }
+{
+    let mut tracks = expire(alloc, table, slot, life)?.into_tracks();
+    let mut certs = Vec::new(alloc);
+    for batch in batches {
+        step_batch(alloc, &mut tracks, batch.plots.as_slice(), life, &mut certs)?;
+    }
+    Ok(SlotRan {
+        table: Table::of(tracks),
+        certs: Sequence::of(certs),
+    })
 }
 
 /// The step of a slot: the same, and then each confirmed track without a number is given one, in
@@ -68,6 +95,7 @@ pub fn slot_step(
     ensures before { IfOk result (λ ran. AreFromBefore (slot + 1) ran.table) }
     ensures spent { ticket.new + 1 ≡ ticket.old }
 {
-    ticket.spend();
-    Err(NoMemory)
+    let SlotRan { mut table, certs } = slot_run(alloc, table, slot, batches, life, ticket)?;
+    assign_numbers(alloc, &mut table)?;
+    Ok(SlotRan { table, certs })
 }

@@ -5,3 +5,5 @@ pub mod SensorProfile
 pub mod Foreign
 pub mod ServiceReading
 pub mod ServiceProfile
+pub mod Judging
+pub mod Total

@@ -1,24 +1,22 @@
 -- The items of each state of a radar are a record of category 063, and no two states have the same ones.
-use Rattle.std.proofs.Common.{◌≡◌, ◌∙◌, ap, sym, refl, subst, rules, zero, suc, ℕ, ◌+◌, ◌*◌, ◌-◌, ◌^◌, ◌<◌, ◌≤◌, List, [], ◌∷◌, ◌++◌, length, take, drop, arith, Option, Some, None, ℤ, pos, negsuc, FitsSigned, w16}
+use Rattle.std.proofs.Common.{◌≡◌, ◌∙◌, ap, sym, refl, subst, rules, ℕ, ◌+◌, ◌*◌, ◌/◌, ◌<◌, ◌≤◌, List, [], ◌∷◌, length, arith, ℤ, FitsSigned, w16}
 use Rattle.std.specs.Prelude.{slice_index, IfSome}
 use Rattle.asterix_frame.specs.declared.tables.Uap.{Uap}
 use Rattle.asterix_frame.specs.declared.tables.Uap.TheVariants.{Cat063}
-use Rattle.asterix_frame.specs.declared.tables.ItemFormat.TheVariants.{Fixed, Extended}
+use Rattle.asterix_frame.specs.declared.tables.ItemFormat.TheVariants.{Fixed}
 use Rattle.asterix_frame.specs.Tables.{table_of, time_frn}
 use Rattle.asterix_frame.specs.Items.{item_at}
-use Rattle.asterix_frame.specs.Presence.{fx}
 use Rattle.asterix_frame.specs.Elements.{Element}
-use Rattle.asterix_frame.specs.Values.{big_endian, two_octets, three_octets}
-use Rattle.asterix_frame.specs.DataRecords.{IsDataItem, item_octets, time_in}
+use Rattle.asterix_frame.specs.Values.{big_endian, three_octets, signed}
+use Rattle.asterix_frame.specs.DataRecords.{IsDataItem, item_octets}
 use Rattle.asterix_frame.specs.Encoding.{AreDataItems}
-use Rattle.asterix_frame.proofs.Written.{two_written, three_written}
+use Rattle.asterix_frame.proofs.Written.{three_written}
 use Rattle.trk_base.specs.Numbers.{day}
-use Rattle.cat062_out.specs.Tracks.{Stamp, IsStamp}
 use Rattle.cat062_out.specs.TrackRecords.{two_signed, complement}
+use Rattle.cat062_out.specs.Reading.{time_in_day, number_of, velocity_of}
+use Rattle.cat062_out.proofs.Written.{number_back, time_back, velocity_back}
 use Rattle.cat062_out.proofs.Profiles.{IsProfile}
-use Rattle.status_out.specs.RadarLines.{RadarLine, IsRadarLine}
 use Rattle.status_out.specs.SensorRecords.{Message, IsMessage, sensor_items}
-use Rattle.status_out.proofs.SensorReading.{some_same}
 
 -- an item of so many octets that isn't the time of day
 pub fixed_item : (uap : Uap) (number size : ℕ) (octets : List ℕ) → item_at (table_of uap) number ≡ Fixed size → (number + 1 ≡ time_frn uap → ⊥) → length octets ≡ size → IsDataItem uap number octets
@@ -67,35 +65,45 @@ items_are m h = record {
 
 -- ---- what the items tell
 
-complement_same : (z t : ℤ) → FitsSigned w16 z → FitsSigned w16 t → complement 16 z ≡ complement 16 t → z ≡ t
-complement_same (pos n) (pos m) h k e = ap pos e
-complement_same (pos n) (negsuc m) h k e = absurd (omega (arith, e, h, k))
-complement_same (negsuc n) (pos m) h k e = absurd (omega (arith, e, h, k))
-complement_same (negsuc n) (negsuc m) h k e = ap negsuc (omega (arith, e, h, k))
+-- a signed number in two octets
+abbrev number_in : List ℕ → ℤ
+number_in octets = signed 16 (number_of octets)
 
-complement_small : (z : ℤ) → FitsSigned w16 z → complement 16 z < 2 ^ 16
-complement_small (pos n) h = omega (arith, h)
-complement_small (negsuc n) h = omega (arith, h)
+number_in_back : (z : ℤ) → FitsSigned w16 z → number_in (two_signed z) ≡ z
+number_in_back z h = ap (signed 16) (number_back (complement 16 z) (grind arith)) ∙ grind arith
 
-pub two_signed_same : (z t : ℤ) → FitsSigned w16 z → FitsSigned w16 t → two_signed z ≡ two_signed t → z ≡ t
-two_signed_same z t h k e =
-    complement_same z t h k (some_same (complement 16 z) (complement 16 t) (sym (two_written (complement 16 z) (complement_small z h)) ∙ ap two_octets e ∙ two_written (complement 16 t) (complement_small t k)))
+-- the state that items tell, if they are those of one
+abbrev pub told_message : List Element → Message
+told_message ps = (
+  record { sac = slice_index (item_octets 1 ps) 0; sic = slice_index (item_octets 1 ps) 1; service = slice_index (item_octets 2 ps) 0; tod = time_in_day (three_octets (item_octets 3 ps)) },
+  record {
+    sac = slice_index (item_octets 4 ps) 0;
+    sic = slice_index (item_octets 4 ps) 1;
+    con = slice_index (item_octets 5 ps) 0 / 64;
+    time_ms = number_in (item_octets 6 ps);
+    gain = (velocity_of (item_octets 7 ps)).0;
+    range = (velocity_of (item_octets 7 ps)).1;
+    azimuth = number_in (item_octets 8 ps);
+  },
+)
 
-one_message : (v w : Message) → IsMessage v → IsMessage w → sensor_items v ≡ sensor_items w → v ≡ w
+pub message_back : (m : Message) → IsMessage m → told_message (sensor_items m) ≡ m
 unfolding sensor_items
-one_message v w h k e =
-    let octet : (frn index : ℕ) → slice_index (item_octets frn (sensor_items v)) index ≡ slice_index (item_octets frn (sensor_items w)) index = λ frn index. ap (λ ps. slice_index (item_octets frn ps) index) e in
-    let octets : (frn : ℕ) → item_octets frn (sensor_items v) ≡ item_octets frn (sensor_items w) = λ frn. ap (item_octets frn) e in
-    let tod = some_same v.0.tod w.0.tod (sym (three_written v.0.tod (omega (arith, h.0.tod))) ∙ ap three_octets (octets 3) ∙ three_written w.0.tod (omega (arith, k.0.tod))) in
-    let con : v.1.con ≡ w.1.con = omega (arith, octet 5 0) in
-    let time = two_signed_same v.1.time_ms w.1.time_ms h.1.time_ms k.1.time_ms (octets 6) in
-    let gain = two_signed_same v.1.gain w.1.gain h.1.gain k.1.gain (ap (take 2) (octets 7)) in
-    let range = two_signed_same v.1.range w.1.range h.1.range k.1.range (ap (drop 2) (octets 7)) in
-    let azimuth = two_signed_same v.1.azimuth w.1.azimuth h.1.azimuth k.1.azimuth (octets 8) in
+message_back m h =
+    let con : 64 * m.1.con / 64 ≡ m.1.con = omega arith in
+    let ranges = velocity_back m.1.gain m.1.range h.1.gain h.1.range in
     λ i. (
-      record { sac = octet 1 0 i; sic = octet 1 1 i; service = octet 2 0 i; tod = tod i },
-      record { sac = octet 4 0 i; sic = octet 4 1 i; con = con i; time_ms = time i; gain = gain i; range = range i; azimuth = azimuth i },
+      record { sac = m.0.sac; sic = m.0.sic; service = m.0.service; tod = time_back m.0.tod h.0.tod i },
+      record {
+        sac = m.1.sac;
+        sic = m.1.sic;
+        con = con i;
+        time_ms = number_in_back m.1.time_ms h.1.time_ms i;
+        gain = (ranges i).0;
+        range = (ranges i).1;
+        azimuth = number_in_back m.1.azimuth h.1.azimuth i;
+      },
     )
 
 pub sensor_profile : IsProfile Cat063 IsMessage sensor_items
-sensor_profile = record { are_items = items_are; one_value = one_message }
+sensor_profile = record { are_items = items_are; one_value = λ v w h k e. sym (message_back v h) ∙ ap told_message e ∙ message_back w k }

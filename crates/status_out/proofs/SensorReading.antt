@@ -1,8 +1,6 @@
 -- The state of a radar is read from its items.
-use Rattle.std.proofs.Common.{◌≡◌, ◌∙◌, ap, sym, refl, ℕ, ◌+◌, ◌*◌, ◌/◌, ◌<◌, ◌≤◌, List, [], ◌∷◌, ◌++◌, length, arith, Option, Some, None, ℤ, FitsSigned, to_z, of_z, w16}
+use Rattle.std.proofs.Common.{◌≡◌, ◌∙◌, ap, ℕ, ◌*◌, ◌/◌, arith, Option, Some, None, ℤ, FitsSigned, to_z, of_z, w16}
 use Rattle.std.proofs.lemmas.Int.{to_z-of_z}
-use Rattle.cat062_out.specs.Tracks.{Stamp, IsStamp}
-use Rattle.status_out.specs.RadarLines.{RadarLine, IsRadarLine}
 use Rattle.status_out.specs.SensorRecords.{Message, IsMessage}
 
 pub some_same : {A : Type 0} (a b : A) → Some a ≡ Some b → a ≡ b

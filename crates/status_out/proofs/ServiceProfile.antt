@@ -1,18 +1,19 @@
 -- The items of what is told of the service are a record of category 065, and no two lines have the same ones.
-use Rattle.std.proofs.Common.{◌≡◌, ◌∙◌, ap, sym, refl, rules, ℕ, ◌*◌, ◌<◌, ◌≤◌, List, [], ◌∷◌, arith, Option, Some}
+use Rattle.std.proofs.Common.{◌≡◌, ◌∙◌, ap, sym, refl, rules, ◌*◌, ◌/◌, ◌==◌, List, arith, if◌then◌else◌}
 use Rattle.std.specs.Prelude.{slice_index}
 use Rattle.asterix_frame.specs.declared.tables.Uap.TheVariants.{Cat065}
-use Rattle.asterix_frame.specs.DataRecords.{item_octets, source_of, time_of}
-use Rattle.asterix_frame.specs.Values.{one_octet}
+use Rattle.asterix_frame.specs.Elements.{Element}
+use Rattle.asterix_frame.specs.DataRecords.{item_octets}
+use Rattle.asterix_frame.specs.Values.{three_octets}
 use Rattle.asterix_frame.specs.Encoding.{AreDataItems}
 use Rattle.cat062_out.specs.Tracks.{Stamp}
+use Rattle.cat062_out.specs.Reading.{time_in_day}
+use Rattle.cat062_out.proofs.Written.{time_back}
 use Rattle.cat062_out.proofs.Profiles.{IsProfile}
 use Rattle.status_out.specs.declared.service_line.Line065.{Line065}
 use Rattle.status_out.specs.declared.service_line.Line065.TheVariants.{Status, End}
 use Rattle.status_out.specs.ServiceRecords.{IsLine065, service_items}
-use Rattle.status_out.proofs.SensorReading.{some_same}
 use Rattle.status_out.proofs.SensorProfile.{fixed_item, time_item}
-use Rattle.status_out.proofs.ServiceReading.{stamp_in, kind_in, source_is, kind_is, service_is, tod_is, stamp_read}
 
 items_are : (line : Line065) → IsLine065 line → AreDataItems Cat065 (service_items line)
 unfolding service_items
@@ -55,27 +56,21 @@ items_are (End stamp batch) h = record {
   );
 }
 
-same_stamp : (v w : Line065) → IsLine065 v → IsLine065 w → service_items v ≡ service_items w → stamp_in v ≡ stamp_in w
-same_stamp v w h k e =
-    stamp_read w (stamp_in v).sac (stamp_in v).sic (stamp_in v).service (stamp_in v).tod (sym (source_is v) ∙ ap source_of e ∙ source_is w) (sym (service_is v) ∙ ap (λ ps. one_octet (item_octets 3 ps)) e ∙ service_is w)
-    (sym (tod_is v h) ∙ ap (time_of Cat065) e ∙ tod_is w k)
+-- ---- what the items tell
 
-same_kind : (v w : Line065) → service_items v ≡ service_items w → kind_in v ≡ kind_in w
-same_kind v w e = some_same (kind_in v) (kind_in w) (sym (kind_is v) ∙ ap (λ ps. one_octet (item_octets 2 ps)) e ∙ kind_is w)
+abbrev told_stamp : List Element → Stamp
+told_stamp ps = record { sac = slice_index (item_octets 1 ps) 0; sic = slice_index (item_octets 1 ps) 1; service = slice_index (item_octets 3 ps) 0; tod = time_in_day (three_octets (item_octets 4 ps)) }
 
-one_line : (v w : Line065) → IsLine065 v → IsLine065 w → service_items v ≡ service_items w → v ≡ w
+-- the line that items tell, if they are those of one
+abbrev pub told_line : List Element → Line065
+told_line ps = if slice_index (item_octets 2 ps) 0 == 1 then Status (told_stamp ps) (slice_index (item_octets 6 ps) 0 / 64) else End (told_stamp ps) (slice_index (item_octets 5 ps) 0)
+
+pub line_back : (line : Line065) → IsLine065 line → told_line (service_items line) ≡ line
 unfolding service_items
-one_line (Status s nogo) (Status t nogo') h k e =
-    let stamp = same_stamp (Status s nogo) (Status t nogo') h k e in
-    let octet : 64 * nogo ≡ 64 * nogo' = ap (λ ps. slice_index (item_octets 6 ps) 0) e in
-    let number : nogo ≡ nogo' = omega (arith, octet) in
-    (λ i. Status (stamp i) (number i))
-one_line (Status s nogo) (End t batch) h k e = absurd (omega (arith, same_kind (Status s nogo) (End t batch) e))
-one_line (End s batch) (Status t nogo) h k e = absurd (omega (arith, same_kind (End s batch) (Status t nogo) e))
-one_line (End s batch) (End t batch') h k e =
-    let stamp = same_stamp (End s batch) (End t batch') h k e in
-    let number : batch ≡ batch' = ap (λ ps. slice_index (item_octets 5 ps) 0) e in
-    (λ i. End (stamp i) (number i))
+line_back (Status stamp nogo) h =
+    let number : 64 * nogo / 64 ≡ nogo = omega arith in
+    (λ i. Status (record { sac = stamp.sac; sic = stamp.sic; service = stamp.service; tod = time_back stamp.tod h.0.tod i }) (number i))
+line_back (End stamp batch) h = λ i. End (record { sac = stamp.sac; sic = stamp.sic; service = stamp.service; tod = time_back stamp.tod h.0.tod i }) batch
 
 pub service_profile : IsProfile Cat065 IsLine065 service_items
-service_profile = record { are_items = items_are; one_value = one_line }
+service_profile = record { are_items = items_are; one_value = λ v w h k e. sym (line_back v h) ∙ ap told_line e ∙ line_back w k }

@@ -1,5 +1,5 @@
 -- What is told of the service is read from its items.
-use Rattle.std.proofs.Common.{◌≡◌, ◌∙◌, ap, sym, refl, ℕ, ◌+◌, ◌*◌, ◌<◌, ◌≤◌, List, arith, Option, Some, None}
+use Rattle.std.proofs.Common.{◌≡◌, ◌∙◌, ap, sym, refl, ℕ, ◌*◌, ◌≤◌, List, arith, Option, Some, None}
 use Rattle.asterix_frame.specs.declared.tables.Uap.TheVariants.{Cat065}
 use Rattle.asterix_frame.specs.Elements.{Element}
 use Rattle.asterix_frame.specs.Values.{one_octet}

@@ -55,17 +55,14 @@ fn first_message(
     ensures found { IfOk result (λ r. BeginsValue IsMessage sensor_items block.now.body.now from r.0 r.1) }
     ensures none { IfRefused result (λ e. BeginsNoValue Cat063 IsMessage sensor_items block.now from e) }
 {
+    let at = block.at + from;
     let record = first_record(alloc, Uap::Cat063, block, from)?;
     let Some(message) = message_of(block.body, &record) else {
-        return Err(ProfileError::Profile {
-            at: block.at + from,
-        });
+        return Err(ProfileError::Profile { at });
     };
     let written = sensor_record(&message.0, &message.1, Vec::new(alloc))?;
     if !stand_there(&written, block.body, from, record.next) {
-        return Err(ProfileError::Profile {
-            at: block.at + from,
-        });
+        return Err(ProfileError::Profile { at });
     }
     Ok((message, record.next))
 }

@@ -42,6 +42,7 @@ pub fn write063(alloc: Global, stamp: &Stamp, radars: &[RadarLine]) -> Result<Ve
     let mut room = Vec::with_capacity(alloc, RECORD_ROOM)?;
     for line in radars {
         let record = sensor_record(stamp, line, room)?;
+        // there is room for 32
         block.append(&record)?;
         room = record;
     }

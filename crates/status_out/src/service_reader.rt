@@ -8,7 +8,7 @@ ghost use Rattle.cat062_out.specs.declared.error.ProfileError.{ProfileError};
 ghost use Rattle.cat062_out.specs.Answers.{AnswersWith, RefusesWith, IfRefused};
 ghost use Rattle.cat062_out.specs.Profile.{BeginsValue, BeginsNoValue};
 ghost use Rattle.status_out.specs.declared.service_line.Line065.{Line065};
-ghost use Rattle.status_out.specs.declared.service_line.Line065.TheVariants as lines;
+ghost use Rattle.status_out.specs.declared.service_line.Line065.TheVariants as kinds;
 ghost use Rattle.status_out.specs.ServiceRecords.{IsLine065, AreServiceMessages, IsServiceRefusal, service_items};
 
 use crate::Line065;
@@ -53,17 +53,14 @@ fn first_line(
     ensures found { IfOk result (λ r. BeginsValue IsLine065 service_items block.now.body.now from r.0 r.1) }
     ensures none { IfRefused result (λ e. BeginsNoValue Cat065 IsLine065 service_items block.now from e) }
 {
+    let at = block.at + from;
     let record = first_record(alloc, Uap::Cat065, block, from)?;
     let Some(line) = line_of(block.body, &record) else {
-        return Err(ProfileError::Profile {
-            at: block.at + from,
-        });
+        return Err(ProfileError::Profile { at });
     };
     let written = service_record(alloc, &line)?;
     if !stand_there(&written, block.body, from, record.next) {
-        return Err(ProfileError::Profile {
-            at: block.at + from,
-        });
+        return Err(ProfileError::Profile { at });
     }
     Ok((line, record.next))
 }
@@ -98,7 +95,7 @@ fn line_of(body: &[u8], items: &ItemSpans) -> Option<Line065>
 // The state of the service, as I065/040 tells it.
 fn status_line(stamp: Stamp, octet: u8) -> Option<Line065>
     ensures is_line { IfSome result IsLine065 }
-    ensures read { (nogo : ℕ) → nogo ≤ 1 → octet ≡ 64 * nogo → result ≡ Some (lines.Status stamp nogo) }
+    ensures read { (nogo : ℕ) → nogo ≤ 1 → octet ≡ 64 * nogo → result ≡ Some (kinds.Status stamp nogo) }
 {
     let nogo = octet / 64;
     if nogo > 1 {

@@ -1,7 +1,7 @@
 // The state of the service and the end of a batch, written.
 ghost use Rattle.std.specs.Prelude.{◌≡◌, ◌≤◌, ◌<◌, length, IfOk};
 ghost use Rattle.asterix_frame.specs.Packing.{block_limit};
-ghost use Rattle.status_out.specs.declared.service_line.Line065.TheVariants as lines;
+ghost use Rattle.status_out.specs.declared.service_line.Line065.TheVariants as kinds;
 ghost use Rattle.status_out.specs.ServiceRecords.{HasState, common_items, service_block, service_record};
 
 use crate::Line065;
@@ -26,11 +26,14 @@ pub(crate) const STATUS_KIND: u8 = 1;
 // The type of a message that ends a batch.
 pub(crate) const END_KIND: u8 = 2;
 
+// The octets of a record in the making: four for the FSPEC, and those of its items.
+const RECORD_ROOM: usize = 12;
+
 /// The block of the state of the service: `nogo` is 0 where it is operational, and 1 where it is
 /// degraded.
 pub fn write065_status(alloc: Global, stamp: &Stamp, nogo: u8) -> Result<Vec<u8>, NoMemory>
     requires { nogo ≤ 1 }
-    ensures block { IfOk result (λ v. v.items ≡ service_block (lines.Status stamp.now nogo)) }
+    ensures block { IfOk result (λ v. v.items ≡ service_block (kinds.Status stamp.now nogo)) }
     ensures within { IfOk result (λ v. length v.items ≤ block_limit) }
 {
     block_of(alloc, &Line065::Status(*stamp, nogo))
@@ -38,7 +41,7 @@ pub fn write065_status(alloc: Global, stamp: &Stamp, nogo: u8) -> Result<Vec<u8>
 
 /// The block of the end of a batch, with its number.
 pub fn write065_end(alloc: Global, stamp: &Stamp, batch: u8) -> Result<Vec<u8>, NoMemory>
-    ensures block { IfOk result (λ v. v.items ≡ service_block (lines.End stamp.now batch)) }
+    ensures block { IfOk result (λ v. v.items ≡ service_block (kinds.End stamp.now batch)) }
     ensures within { IfOk result (λ v. length v.items ≤ block_limit) }
 {
     block_of(alloc, &Line065::End(*stamp, batch))
@@ -64,12 +67,12 @@ pub(crate) fn service_record(alloc: Global, line: &Line065) -> Result<Vec<u8>, N
 {
     match line {
         Line065::Status(stamp, nogo) => {
-            let mut record = begun(alloc, stamp, STATUS_KIND)?;
+            let mut record = begin_record(alloc, stamp, STATUS_KIND)?;
             record.put(STATUS, &[64 * *nogo])?;
             Ok(record.finish())
         }
         Line065::End(stamp, batch) => {
-            let mut record = begun(alloc, stamp, END_KIND)?;
+            let mut record = begin_record(alloc, stamp, END_KIND)?;
             record.put(BATCH, &[*batch])?;
             Ok(record.finish())
         }
@@ -77,7 +80,7 @@ pub(crate) fn service_record(alloc: Global, line: &Line065) -> Result<Vec<u8>, N
 }
 
 // A record with the items that both types of messages have.
-fn begun(alloc: Global, stamp: &Stamp, kind: u8) -> Result<RecordWriter, NoMemory>
+fn begin_record(alloc: Global, stamp: &Stamp, kind: u8) -> Result<RecordWriter, NoMemory>
     ensures { IfOk result (λ w. w ≡ common_items stamp.now kind) }
 {
     let [_, high, middle, low] = stamp.tod.to_be_bytes();
@@ -88,6 +91,3 @@ fn begun(alloc: Global, stamp: &Stamp, kind: u8) -> Result<RecordWriter, NoMemor
     record.put(TIME, &[high, middle, low])?;
     Ok(record)
 }
-
-// The octets of a record in the making: four for the FSPEC, and those of its items.
-const RECORD_ROOM: usize = 12;

@@ -1,5 +1,5 @@
 use crate::{Line065, RadarLine, read063, read065, write063, write065_end, write065_status};
-use asterix_frame::{Malformed, first_block};
+use asterix_frame::{Block, Malformed, first_block};
 use cat062_out::{ProfileError, Stamp};
 use std::alloc::Global;
 use std::test::Fail;
@@ -11,7 +11,10 @@ type RadarRow = (u8, u8, u8, i16, i16, i16, i16);
 
 fn stamp_of(row: StampRow) -> Option<Stamp> {
     let (sac, sic, service, tod) = row;
-    (tod < 11_059_200).then_some(Stamp {
+    if tod >= 11_059_200 {
+        return None;
+    }
+    Some(Stamp {
         sac,
         sic,
         service,
@@ -21,7 +24,10 @@ fn stamp_of(row: StampRow) -> Option<Stamp> {
 
 fn line_of(row: RadarRow) -> Option<RadarLine> {
     let (sac, sic, con, time_ms, gain, range, azimuth) = row;
-    (con <= 3).then_some(RadarLine {
+    if con > 3 {
+        return None;
+    }
+    Some(RadarLine {
         sac,
         sic,
         con,
@@ -327,6 +333,33 @@ fn refuses_what_is_not_written(rt: HostRuntime) {
             "{datagram:?}"
         );
     }
+}
+
+// A radar that isn't connected, with biases below 0, and one that is operational, with biases above.
+const TWO: [u8; 41] = [
+    0x3F, 0x00, 0x29, 0xFF, 0x80, 0xCB, 0xC8, 0x8C, 0x46, 0x51, 0x42, 0x01, 0x08, 0xC0, 0xD8, 0xF0,
+    0xFC, 0x18, 0xFC, 0x18, 0xFF, 0xFF, 0xFF, 0x80, 0xCB, 0xC8, 0x8C, 0x46, 0x51, 0x42, 0x01, 0x09,
+    0x00, 0x00, 0x08, 0x03, 0xE8, 0x00, 0x02, 0x00, 0x40,
+];
+
+#[test]
+fn writes_and_reads_two_radars(rt: HostRuntime) -> Result<(), Fail> {
+    let stamp = stamp_of((203, 200, 140, 4_608_322)).expect(&rt, "a stamp");
+    let first = line_of((1, 8, 3, -10_000, -1_000, -1_000, -1)).expect(&rt, "a state");
+    let second = line_of((1, 9, 0, 8, 1_000, 2, 64)).expect(&rt, "a state");
+    let octets = write063(rt.alloc(), &stamp, &[first, second])?;
+    assert_eq!(rt; octets.as_slice(), TWO.as_slice());
+    let block = Block {
+        cat: 63,
+        at: 3,
+        body: &TWO[3..],
+    };
+    let read = read063(rt.alloc(), &block).expect(&rt, "two states");
+    assert_eq!(rt;
+        read.as_slice(),
+        [(stamp, first), (stamp, second)].as_slice()
+    );
+    Ok(())
 }
 
 // 32 radars stand in one block.

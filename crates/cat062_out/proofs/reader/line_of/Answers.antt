@@ -1,4 +1,4 @@
-use Rattle.std.proofs.Common.{◌∙◌, ap, rules, ℕ, ℤ, Option}
+use Rattle.std.proofs.Common.{◌∙◌, ap, rules, ℤ}
 use Rattle.std.specs.Prelude.{FitsSigned}
 use Rattle.std.specs.Int.{w16, w32}
 use Rattle.std.proofs.lemmas.Int.{to_z-of_z}
@@ -25,11 +25,11 @@ returns c =
     let y = to_z-of_z w32 c.position_of-x.result.1 fits_y ∙ ap (λ (p : ℤ × ℤ). p.1) position in
     let vx = to_z-of_z w16 c.velocity_of-vx.result.0 fits_vx ∙ ap (λ (p : ℤ × ℤ). p.0) velocity in
     let vy = to_z-of_z w16 c.velocity_of-vx.result.1 fits_vy ∙ ap (λ (p : ℤ × ℤ). p.1) velocity in
-    let mono = c.status_bit.ensures ∙ ap (λ o. status_bit o 0 8) status in
-    let spi = c.status_bit-2.ensures ∙ ap (λ o. status_bit o 0 7) status in
-    let coast = c.status_bit-3.ensures ∙ ap (λ o. status_bit o 3 8) status in
-    let first = c.status_bit-4.ensures ∙ ap (λ o. status_bit o 1 6) status in
-    let ended = c.status_bit-5.ensures ∙ ap (λ o. status_bit o 1 7) status in
+    let mono = c.has_flag.ensures ∙ ap (λ o. status_bit o 0 8) status in
+    let spi = c.has_flag-2.ensures ∙ ap (λ o. status_bit o 0 7) status in
+    let coast = c.has_flag-3.ensures ∙ ap (λ o. status_bit o 3 8) status in
+    let first = c.has_flag-4.ensures ∙ ap (λ o. status_bit o 1 6) status in
+    let ended = c.has_flag-5.ensures ∙ ap (λ o. status_bit o 1 7) status in
     λ i. record {
       number = number i;
       x = x i;

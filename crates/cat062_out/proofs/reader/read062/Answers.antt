@@ -1,4 +1,4 @@
-use Rattle.std.proofs.Common.{◌≡◌, ◌∙◌, ap, sym, subst, Vec, Global, ℕ, List, ◌++◌, [], ◌∷◌}
+use Rattle.std.proofs.Common.{◌≡◌, sym, subst, Vec, Global, ℕ}
 use Rattle.cat062_out.specs.Tracks.{Stamp, TrackLine}
 use Rattle.cat062_out.specs.TrackRecords.{IsTrack, items_of}
 use Rattle.asterix_frame.specs.declared.tables.Uap.TheVariants.{Cat062}

@@ -1,4 +1,4 @@
-use Rattle.std.proofs.Common.{◌≡◌, ◌∙◌, ap, ◌++◌, [], ◌∷◌, length, arith}
+use Rattle.std.proofs.Common.{◌∙◌, ap, ◌++◌, [], ◌∷◌, length, arith}
 use Rattle.asterix_frame.specs.Values.{big_endian}
 use Rattle.asterix_frame.specs.Encoding.{item_of}
 use Rattle.cat062_out.specs.TrackRecords.{where_known, two_signed, address_octets}

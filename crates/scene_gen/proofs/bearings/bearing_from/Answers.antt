@@ -1,6 +1,6 @@
 use Rattle.std.proofs.Common.{◌≡◌, ◌∙◌, ap, sym, ℕ, ◌+◌, ◌-◌, ◌^◌, arith}
-use Rattle.scene_gen.specs.Bearings.{bearing_from}
-use Rattle.scene_gen.proofs.Digits.{direction_at, next_is, next_below, room_set, room_clear, digit_set, digit_clear, digits_done}
+use Rattle.scene_gen.specs.Bearings.{bearing_from, direction}
+use Rattle.scene_gen.proofs.Digits.{next_is, room_set, room_clear, digit_set, digit_clear, digits_done}
 use Rattle.scene_gen.proofs.bearings.bearing_from.Goals as goal
 
 pub loop-k-preserved-then-lies_on : goal.loop-k-preserved-then-lies_on
@@ -10,7 +10,7 @@ loop-k-preserved-then-lies_on c =
     let angle = c.loop-k.angle in
     let more = c.loop-k-test.true in
     let next = next_is k angle more inv.room in
-    let read = direction_at (angle + 2 ^ (k - 1)) c.requires.directions (c.from.ensures ∙ next) (next_below k angle more inv.room) in
+    let read = c.of.ensures ∙ ap direction next in
     record {
       left = ap (λ (n : ℕ). bearing_from (k - 1) n c.args.point.0 c.args.point.1) next ∙ sym (digit_set k angle c.args.point.0 c.args.point.1 more read c.if-lies_on.ensures) ∙ inv.left;
       room = room_set k angle more inv.room;
@@ -22,7 +22,7 @@ loop-k-preserved c =
     let k = c.loop-k.k in
     let angle = c.loop-k.angle in
     let more = c.loop-k-test.true in
-    let read = direction_at (angle + 2 ^ (k - 1)) c.requires.directions (c.from.ensures ∙ next_is k angle more inv.room) (next_below k angle more inv.room) in
+    let read = c.of.ensures ∙ ap direction (next_is k angle more inv.room) in
     record {
       left = sym (digit_clear k angle c.args.point.0 c.args.point.1 more read c.if-lies_on.ensures) ∙ inv.left;
       room = room_clear k angle more inv.room;

@@ -7,6 +7,7 @@ use Rattle.cat062_out.proofs.Profiles.{one_list, one_refusal, not_both}
 use Rattle.status_out.specs.RadarLines.{RadarLine, IsRadarLine}
 use Rattle.status_out.specs.SensorRecords.{Message, IsMessage, AreSensorMessages, sensor_items, sensor_record}
 use Rattle.status_out.proofs.SensorProfile.{sensor_profile}
+use Rattle.status_out.proofs.Total.{some_sensor_reading}
 use Rattle.status_out.proofs.laws.one_sensor_reading.Goals as goal
 
 module _ (stamp : Stamp) (is : IsStamp stamp) where
@@ -25,6 +26,7 @@ module _ (stamp : Stamp) (is : IsStamp stamp) where
 pub returns : goal.returns
 returns c = record {
   written = λ stamp radars is all. reads_back stamp is radars all;
+  some = some_sensor_reading;
   one_list = one_list Message Cat063 IsMessage sensor_items sensor_profile;
   one_refusal = one_refusal Message Cat063 IsMessage sensor_items sensor_profile;
   not_both = not_both Message Cat063 IsMessage sensor_items sensor_profile;

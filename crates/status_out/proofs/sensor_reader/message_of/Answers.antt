@@ -1,4 +1,4 @@
-use Rattle.std.proofs.Common.{◌≡◌, ◌∙◌, ap, sym, arith, Some, ◌*◌}
+use Rattle.std.proofs.Common.{◌∙◌, ap, sym, arith, Some, ◌*◌}
 use Rattle.asterix_frame.specs.declared.tables.Uap.TheVariants.{Cat063}
 use Rattle.asterix_frame.specs.Values.{one_octet, data_source}
 use Rattle.asterix_frame.specs.DataRecords.{item_octets, source_of, time_of}

@@ -1,4 +1,4 @@
-use Rattle.std.proofs.Common.{◌≡◌, ◌∙◌, ap, sym, length, ◌++◌}
+use Rattle.std.proofs.Common.{◌∙◌, ap, sym, length, ◌++◌}
 use Rattle.cat062_out.specs.TrackRecords.{two_signed}
 use Rattle.status_out.specs.SensorRecords.{Message, sensor_record}
 use Rattle.status_out.proofs.Records.{eight, sensor_record_is, sensor_size}

@@ -1,4 +1,4 @@
-use Rattle.std.proofs.Common.{◌≡◌, ◌∙◌, ap, length}
+use Rattle.std.proofs.Common.{◌∙◌, ap, length}
 use Rattle.status_out.proofs.SensorBlocks.{holds_more}
 use Rattle.status_out.proofs.sensor_writer.write063.Goals as goal
 

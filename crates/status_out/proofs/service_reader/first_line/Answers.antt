@@ -1,4 +1,4 @@
-use Rattle.std.proofs.Common.{◌≡◌, ◌∙◌, ap, sym, refl, subst}
+use Rattle.std.proofs.Common.{◌∙◌, sym, refl, subst}
 use Rattle.std.specs.Prelude.{IfSome}
 use Rattle.trk_base.specs.Ranges.{IsTimeOfDay}
 use Rattle.asterix_frame.specs.declared.tables.Uap.TheVariants.{Cat065}

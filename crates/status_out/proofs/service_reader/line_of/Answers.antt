@@ -1,4 +1,4 @@
-use Rattle.std.proofs.Common.{◌≡◌, ◌∙◌, ap, sym, []}
+use Rattle.std.proofs.Common.{◌∙◌, ap, sym, []}
 use Rattle.asterix_frame.specs.declared.tables.Uap.TheVariants.{Cat065}
 use Rattle.asterix_frame.specs.Values.{one_octet}
 use Rattle.asterix_frame.specs.DataRecords.{item_octets, source_of, time_of}

@@ -1,4 +1,4 @@
-use Rattle.std.proofs.Common.{◌≡◌, ◌∙◌, ap, length}
+use Rattle.std.proofs.Common.{◌∙◌, ap, length}
 use Rattle.status_out.proofs.Records.{status_record, end_record, service_size}
 use Rattle.status_out.proofs.service_writer.service_record.Goals as goal
 

@@ -5,7 +5,7 @@ use Rattle.scene_gen.specs.Skies.{seen_before}
 use Rattle.scene_gen.proofs.sky.Sky.put_plots.Goals as goal
 
 pub returns-clause-ready : goal.returns-clause-ready
-returns-clause-ready c = on_ok_weaker c.take_at.result (λ n. record { sweeps = c.requires.ready.sweeps; directions = c.requires.ready.directions; count = n }) c.take_at.ensures.count
+returns-clause-ready c = on_ok_weaker c.take_at.result (λ n. record { sweeps = c.requires.ready.sweeps; count = n }) c.take_at.ensures.count
 
 pub returns-clause-come : goal.returns-clause-come
 returns-clause-come c = λ fleet g seconds late is. c.take_at.ensures.taken (delayed late g (seen_before fleet seconds (c.args.time + 1))) is.on_way

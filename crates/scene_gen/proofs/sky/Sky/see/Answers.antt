@@ -11,9 +11,6 @@ use Rattle.scene_gen.proofs.Moments.{seen_past}
 use Rattle.scene_gen.proofs.Sweeping.{drawn_next, sent_next, swept}
 use Rattle.scene_gen.proofs.sky.Sky.see.Goals as goal
 
-pub look_at-requires-clause-directions : goal.look_at-requires-clause-directions
-look_at-requires-clause-directions c = c.deref-then-time-from.ensures.value ∙ c.requires.ready.directions
-
 pub returns-in_ok-send-clause-seen : goal.returns-in_ok-send-clause-seen
 returns-in_ok-send-clause-seen c = λ fleet g seconds late is.
     let s = c.args.self.now in
@@ -21,8 +18,8 @@ returns-in_ok-send-clause-seen c = λ fleet g seconds late is.
     let items : List Item = flat_map (seen_by time) s.sweeps.items in
     let within : time < 128 * seconds = omega (arith, c.if-time-from.true, c.from.ensures, is.seconds_are) in
     let are = swept fleet time s.sweeps.items is.sweeps in
-    let made : c.deref-then-time-from-2.result.now ≡ map item_octets items =
-    c.deref-then-time-from-2.ensures.value ∙ c.in_ok-look_at.ensures ∙ ap (λ (l : List Sweep). map item_octets (flat_map (seen_by time) l)) c.deref.ensures.value in
+    let made : c.deref-then-time-from.result.now ≡ map item_octets items =
+    c.deref-then-time-from.ensures.value ∙ c.in_ok-look_at.ensures ∙ ap (λ (l : List Sweep). map item_octets (flat_map (seen_by time) l)) c.deref.ensures.value in
     let on = c.in_ok-send.ensures.sent (delayed late g (seen_before fleet seconds time)) items made is.on_way in
     record {
       seconds_are = is.seconds_are;
