@@ -1,5 +1,5 @@
 -- Which slots of a log are settled after its first events, and which are to be folded at its last tick.
-use Rattle.std.specs.Prelude.{◌≡◌, ◌<◌, ◌≤◌, ◌⊎◌, ◌↔◌, ℕ, List, length, drop, All, Contains}
+use Rattle.std.specs.Prelude.{◌<◌, ◌≤◌, ◌≡◌, ◌⊎◌, ◌↔◌, ℕ, List, drop, All, Contains}
 use Rattle.std.specs.List.{flat_map, enumerate_from}
 use Rattle.std.specs.List.Sorted.{IsStrictlyIncreasing}
 use Rattle.trk_base.specs.Numbers.{slot_of}
@@ -23,11 +23,16 @@ pub record IsSettled (log : History) (s n : ℕ) : Type 0 where
   pub filled : IsFilled (entries_of (first s log)) n
   pub later : All (λ e. n < slot_in e) (entries_from s log)
 
+-- These are the slots from low on that are settled after the first s events, in rising order.
+pub record AreSettled (log : History) (s low : ℕ) (slots : List ℕ) : Type 0 where
+  pub rising : IsStrictlyIncreasing slots
+  pub all : (n : ℕ) → Contains slots n ↔ ((low ≤ n) × IsSettled log s n)
+
 -- A slot opens the entry span: it is over at the last tick and filled, and it wasn't over after the first s events, or an entry of a later event fills it.
 pub record OpensSpan (log : History) (s n : ℕ) : Type 0 where
   pub over : n < slot_of (last_of log)
   pub filled : IsFilled (entries_of log) n
-  pub new : slot_of (last_of (first s log)) ≤ n ⊎ IsFilled (entries_from s log) n
+  pub new : (slot_of (last_of (first s log)) ≤ n) ⊎ IsFilled (entries_from s log) n
 
 -- Slot n is of the entry span: it is over and filled, and one that opens the span isn't above it.
 pub record IsInSpan (log : History) (s n : ℕ) : Type 0 where
@@ -37,7 +42,7 @@ pub record IsInSpan (log : History) (s n : ℕ) : Type 0 where
   pub opens : OpensSpan log s opening
   pub from : opening ≤ n
 
--- these are the slots of the entry span, in rising order
+-- These are the slots of the entry span, in rising order.
 pub record AreSpan (log : History) (s : ℕ) (slots : List ℕ) : Type 0 where
   pub rising : IsStrictlyIncreasing slots
   pub all : (n : ℕ) → Contains slots n ↔ IsInSpan log s n

@@ -1,25 +1,27 @@
 // What an engine is, and its calls.
-ghost use Rattle.std.specs.Prelude.{◌≡◌, ◌<◌, ◌≤◌, ◌+◌, ◌*◌, ◌^◌, ℕ, List, [], length, IfOk, OnErr, OnOk};
+ghost use Rattle.std.specs.Prelude.{◌≡◌, ◌<◌, ◌≤◌, ◌+◌, ◌-◌, ◌*◌, ◌^◌, ℕ, List, [], length, IfOk, OnErr, OnOk};
 ghost use Rattle.std.specs.Arc.{arc_value};
 ghost use Rattle.admission_log.specs.declared.settings.Settings.{Settings};
-ghost use Rattle.admission_log.specs.Histories.{History};
-ghost use Rattle.edition_form.specs.declared.lines.ShownLine.{ShownLine};
+ghost use Rattle.admission_log.specs.Histories.{History, low_at};
+ghost use Rattle.admission_log.specs.Legality.{IsLegal};
 ghost use Rattle.edition_form.specs.Datagrams.{shown_at, shown_of};
 ghost use Rattle.edition_form.specs.Editions.{IsEdition};
 ghost use Rattle.edition_form.specs.Folding.{table_of};
 ghost use Rattle.tracker_engine.specs.Engines.{StandsFor, Continues, IsAllSettled, with_events};
 ghost use Rattle.tracker_engine.specs.Spans.{AreSpan};
 
+use crate::absorbing::{entries_of, note_all};
+use crate::showing::{biases_at, certs_from};
 use admission_log::{Event, Settings};
-use edition_form::{Built, ShownLine};
+use edition_form::{Built, ShownLine, build};
 use late_window::Window;
 use std::alloc::Global;
 use std::marker::Model;
 use std::sync::Arc;
 use std::sync::ledger::Ledger;
 use track_life::Table;
-use tracker_fold::TrackerFold;
-use trk_base::{NoMemory, Steps};
+use tracker_fold::{TrackerFold, TrackerState};
+use trk_base::{NoMemory, Steps, slot_of};
 
 /// The tracker over the events of one log. It stands for the events that it has taken in
 /// (`StandsFor`), and keeps none of them.
@@ -27,6 +29,7 @@ use trk_base::{NoMemory, Steps};
 pub struct Engine {
     alloc: Global,
     settings: Arc<Settings>,
+    start: u64,
     // The last tick, and how many events were taken in.
     last: u64,
     count: u64,
@@ -40,11 +43,13 @@ pub struct Engine {
 
 impl Model for Engine {
     ghost use Rattle.std.specs.Arc.{arc_value};
-    ghost use Rattle.tracker_engine.specs.Engines.{EngineState};
+    ghost use Rattle.tracker_engine.specs.Engines.{EngineState, IsEngine};
 
     ghost Value = { EngineState };
 
-    ghost view = { λ e. record { settings = arc_value e.settings; last = e.last; count = e.count; services = e.services.items; window = e.window; before = e.before; shown = e.shown.items } };
+    ghost view = { λ e. record { settings = arc_value e.settings; start = e.start; last = e.last; count = e.count; services = e.services.items; window = e.window; before = e.before; shown = e.shown.items } };
+
+    ghost invariant = { λ e. IsEngine (record { settings = arc_value e.settings; start = e.start; last = e.last; count = e.count; services = e.services.items; window = e.window; before = e.before; shown = e.shown.items }) };
 }
 
 impl Engine {
@@ -53,16 +58,37 @@ impl Engine {
         requires { start < 2 ^ 40 }
         ensures { IfOk result (StandsFor (arc_value settings) (record { start = start; events = [] }) 0 0) }
     {
-        Err(NoMemory)
+        let state = TrackerState::start(alloc, &settings)?;
+        let mut services = Vec::with_capacity(alloc, settings.radars.len())?;
+        for _ in settings.radars.as_slice() {
+            services.push(None)?;
+        }
+        let low = slot_of(start).saturating_sub(u64::from(settings.window));
+        Ok(Engine {
+            alloc,
+            settings,
+            start,
+            last: start,
+            count: 0,
+            services,
+            window: Window::new(alloc, state, low),
+            before: 0,
+            shown: Vec::new(alloc),
+        })
     }
 
     /// Takes in further events of the log. After an error none was taken in.
     pub fn absorb(&mut self, events: &[Event]) -> Result<(), NoMemory>
         requires continues { Continues self.old events.now }
-        ensures stands { (settings : Settings) (log : History) (settled before : ℕ) → StandsFor settings log settled before self.old → OnOk result (StandsFor settings (with_events log events.now) settled before self.new) }
+        ensures stands { (settings : Settings) (log : History) (settled before : ℕ) → StandsFor settings log settled before self.old → IsLegal settings (with_events log events.now) → OnOk result (StandsFor settings (with_events log events.now) settled before self.new) }
         ensures err { OnErr result (self.new ≡ self.old) }
     {
-        Err(NoMemory)
+        let count = self.count_after(events)?;
+        let entries = entries_of(self.alloc, self.count, events)?;
+        self.window.insert_all(&entries)?;
+        note_all(&mut self.last, &mut self.services, events);
+        self.count = count;
+        Ok(())
     }
 
     /// Brings the tracks up to the last tick: each filled slot that is over, from the first that is new
@@ -73,7 +99,10 @@ impl Engine {
         ensures rises { steps.old ≤ steps.new }
         ensures bound { (settings : Settings) (log : History) (settled before : ℕ) (slots : List ℕ) → StandsFor settings log settled before self.old → AreSpan log settled slots → steps.new ≤ steps.old + 31 * length slots }
     {
-        Err(NoMemory)
+        let low = self.low();
+        self.window.settle(slot_of(self.last), steps)?;
+        self.window.close_below(low);
+        Ok(())
     }
 
     /// The tracks after the last `settle`.
@@ -91,7 +120,27 @@ impl Engine {
         ensures edition { (settings : Settings) (log : History) (before : ℕ) → StandsFor settings log (length log.events) before self.now → IfOk result (λ b. IsEdition settings log before number b.edition) }
         ensures shown { (settings : Settings) (log : History) (before : ℕ) → StandsFor settings log (length log.events) before self.now → IfOk result (λ b. b.shown ≡ shown_of settings log) }
     {
-        Err(NoMemory)
+        let state = self.window.state();
+        let biases = biases_at(
+            self.alloc,
+            state.radars.as_slice(),
+            slot_of(self.last),
+            self.window.items(),
+        )?;
+        let certs = certs_from(self.alloc, self.low(), self.window.outs())?;
+        build(
+            self.alloc,
+            &self.settings,
+            &biases,
+            &state.table,
+            &self.services,
+            self.last,
+            number,
+            self.count,
+            self.before,
+            &self.shown,
+            certs,
+        )
     }
 
     /// From now on the edition before is the one at this cut, which showed these lines: the next one
@@ -103,5 +152,20 @@ impl Engine {
     {
         self.before = cut;
         self.shown = shown;
+    }
+
+    // The first slot that a plot or a change may still have.
+    fn low(&self) -> u64
+        ensures { result ≡ low_at self.now.settings.window self.now.last }
+    {
+        slot_of(self.last).saturating_sub(u64::from(self.settings.window))
+    }
+
+    // How many events were taken in after these. More than can be counted can't be kept in memory.
+    fn count_after(&self, events: &[Event]) -> Result<u64, NoMemory>
+        ensures count { IfOk result (λ n. n ≡ self.now.count + length events.now) }
+        ensures fits { IfOk result (λ n. n < 2 ^ 64) }
+    {
+        self.count.checked_add(events.len() as u64).ok_or(NoMemory)
     }
 }

@@ -4,6 +4,8 @@
 //! be followed by a late one, in a window, and before them one state of the tracks.
 #![tactic(auto)]
 
+mod absorbing;
 mod engine;
+mod showing;
 
 pub use engine::Engine;
