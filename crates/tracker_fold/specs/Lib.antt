@@ -1,3 +1,5 @@
+pub mod Earlier
+pub mod Folds
 pub mod Keys
 pub mod Laws
 pub mod Starts

@@ -5,9 +5,11 @@
 #![tactic(auto)]
 
 mod keys;
+mod laws;
 mod state;
 mod step;
 
 pub use keys::EntryKey;
+pub use laws::folded_log;
 pub use state::TrackerState;
 pub use step::TrackerFold;

@@ -1,11 +1,11 @@
 // The step of a slot over the slot's entries.
-ghost use Rattle.std.specs.Prelude.{◌≡◌, ◌<◌, ◌+◌, IfOk};
+ghost use Rattle.std.specs.Prelude.{◌≡◌, ◌<◌, ◌+◌, ℕ, [], IfOk};
 ghost use Rattle.admission_log.specs.Entries.{slot_in};
 ghost use Rattle.admission_log.specs.EntryOrder.{entry_cmp};
 ghost use Rattle.late_window.specs.Folding.{Rises, InSlot};
 ghost use Rattle.slot_step.specs.Calls.{AreBatches, plots_of};
-ghost use Rattle.tracker_fold.specs.Steps.{next, radars_after, planes, table_after, IsOut, IsBefore};
 ghost use Rattle.tracker_fold.specs.Keys.{key_in};
+ghost use Rattle.tracker_fold.specs.Steps.{changed, radars_after, plane, planes, moved, AreCertified, IsBefore};
 
 use crate::{EntryKey, TrackerState};
 use admission_log::Entry;
@@ -13,6 +13,7 @@ use late_window::Fold;
 use plot_geometry::{PlanePlot, RadarSettings, to_plane};
 use slot_step::{Batch, KeyedCert, SlotRan, batches_of, slot_step};
 use std::alloc::Global;
+use track_life::Table;
 use trk_base::{NoMemory, Sequence, Ticket, TryCopy};
 
 /// The tracker's fold over the entries of a log.
@@ -93,17 +94,14 @@ impl Prepared {
         alloc: Global,
         before: &[RadarSettings],
         entries: &[Entry],
-    ) -> Result<Prepared, NoMemory> {
-        let mut radars = Vec::from_slice(alloc, before)?;
-        for entry in entries {
-            change(&mut radars, entry);
-        }
-        let mut plots = Vec::new(alloc);
-        for entry in entries {
-            if let Some(plot) = plane(&radars, entry) {
-                plots.push(plot)?;
-            }
-        }
+    ) -> Result<Prepared, NoMemory>
+        requires rising { Rises entry_cmp key_in entries.now }
+        ensures radars { IfOk result (λ p. p.radars.items ≡ radars_after before.now entries.now) }
+        ensures plots { (slot : ℕ) → InSlot slot_in slot entries.now → IfOk result (λ p. plots_of p.batches.items ≡ planes (radars_after before.now entries.now) entries.now) }
+        ensures batches { (slot : ℕ) → InSlot slot_in slot entries.now → IfOk result (λ p. AreBatches slot p.batches.items) }
+    {
+        let radars = radars_after(alloc, before, entries)?;
+        let plots = planes(alloc, &radars, entries)?;
         let batches = batches_of(alloc, &plots)?;
         Ok(Prepared { radars, batches })
     }
@@ -114,14 +112,18 @@ impl Prepared {
         state: &TrackerState,
         slot: u64,
         ticket: &mut Ticket,
-    ) -> Result<(TrackerState, Sequence<KeyedCert>), NoMemory> {
+    ) -> Result<(TrackerState, Sequence<KeyedCert>), NoMemory>
+        requires batches { AreBatches slot self.batches.items }
+        requires before { IsBefore state.now slot }
+        requires paid { 0 < ticket.old }
+        ensures next { IfOk result (λ r. r.0 ≡ moved state.now self.radars.items slot (plots_of self.batches.items)) }
+        ensures certs { IfOk result (λ r. AreCertified state.now slot (plots_of self.batches.items) r.1) }
+        ensures spent { ticket.new + 1 ≡ ticket.old }
+    {
         let Prepared { radars, batches } = self;
         let SlotRan { table, certs } = if batches.is_empty() {
             ticket.spend();
-            SlotRan {
-                table: state.table.copy(alloc)?,
-                certs: Sequence::new(alloc),
-            }
+            unmoved(alloc, &state.table)?
         } else {
             slot_step(alloc, &state.table, slot, &batches, &state.life, ticket)?
         };
@@ -134,17 +136,66 @@ impl Prepared {
     }
 }
 
+// What becomes of a table in a slot without plots.
+fn unmoved(alloc: Global, table: &Table) -> Result<SlotRan, NoMemory>
+    ensures table { IfOk result (λ ran. ran.table ≡ table.now) }
+    ensures certs { IfOk result (λ ran. ran.certs ≡ []) }
+{
+    Ok(SlotRan {
+        table: table.copy(alloc)?,
+        certs: Sequence::new(alloc),
+    })
+}
+
+// The radars after the changes among entries.
+#[tactic(auto, unfolding(crate::specs::Steps::radars_after))]
+fn radars_after(
+    alloc: Global,
+    before: &[RadarSettings],
+    entries: &[Entry],
+) -> Result<Vec<RadarSettings>, NoMemory>
+    ensures { IfOk result (λ v. v.items ≡ radars_after before.now entries.now) }
+{
+    let mut radars = Vec::from_slice(alloc, before)?;
+    for entry in entries {
+        change(&mut radars, entry);
+    }
+    Ok(radars)
+}
+
 // Puts a change of biases in the place of what its radar had.
-fn change(radars: &mut [RadarSettings], entry: &Entry) {
+fn change(radars: &mut [RadarSettings], entry: &Entry)
+    ensures { radars.new ≡ changed radars.old entry.now }
+{
     if let Entry::Bias { radar, bias, .. } = entry {
-        if let Some(settings) = radars.get_mut(*radar as usize) {
-            *settings = settings.biased(*bias);
+        let index = *radar as usize;
+        if index < radars.len() {
+            radars[index] = radars[index].biased(*bias);
         }
     }
 }
 
+// The plots among entries in the plane, by these radars.
+fn planes(
+    alloc: Global,
+    radars: &[RadarSettings],
+    entries: &[Entry],
+) -> Result<Vec<PlanePlot>, NoMemory>
+    ensures { IfOk result (λ v. v.items ≡ planes radars.now entries.now) }
+{
+    let mut plots = Vec::new(alloc);
+    for entry in entries {
+        if let Some(plot) = plane(radars, entry) {
+            plots.push(plot)?;
+        }
+    }
+    Ok(plots)
+}
+
 // A plot in the plane, by its radar as it is then.
-fn plane(radars: &[RadarSettings], entry: &Entry) -> Option<PlanePlot> {
+fn plane(radars: &[RadarSettings], entry: &Entry) -> Option<PlanePlot>
+    ensures { result ≡ plane radars.now entry.now }
+{
     match entry {
         Entry::Plot { key, raw } => {
             let radar = radars.get(key.radar as usize)?;
