@@ -1,6 +1,6 @@
 -- Which slots of a log are settled after its first events, and which are to be folded at its last tick.
-use Rattle.std.specs.Prelude.{◌<◌, ◌≤◌, ◌≡◌, ◌⊎◌, ◌↔◌, ℕ, List, drop, All, Contains}
-use Rattle.std.specs.List.{flat_map, enumerate_from}
+use Rattle.std.specs.Prelude.{◌<◌, ◌≤◌, ◌≡◌, ◌⊎◌, ◌↔◌, ℕ, List, drop, Contains}
+use Rattle.std.specs.List.{AllByRecursion, flat_map, enumerate_from}
 use Rattle.std.specs.List.Sorted.{IsStrictlyIncreasing}
 use Rattle.trk_base.specs.Numbers.{slot_of}
 use Rattle.admission_log.specs.declared.entries.Entry.{Entry}
@@ -21,7 +21,7 @@ pub record IsFilled (entries : List Entry) (n : ℕ) : Type 0 where
 pub record IsSettled (log : History) (s n : ℕ) : Type 0 where
   pub over : n < slot_of (last_of (first s log))
   pub filled : IsFilled (entries_of (first s log)) n
-  pub later : All (λ e. n < slot_in e) (entries_from s log)
+  pub later : AllByRecursion (λ e. n < slot_in e) (entries_from s log)
 
 -- These are the slots from low on that are settled after the first s events, in rising order.
 pub record AreSettled (log : History) (s low : ℕ) (slots : List ℕ) : Type 0 where
