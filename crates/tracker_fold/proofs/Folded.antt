@@ -93,6 +93,12 @@ unfolding before
 life_is settings all zero = refl
 life_is settings all (suc n) = life_stays (state_before settings all n) n (at_slot slot_in n all) ∙ life_is settings all n
 
+pub radars_next : (settings : Settings) (all : List Entry) (n : ℕ) → (state_before settings all (n + 1)).radars ≡ radars_after (state_before settings all n).radars (at_slot slot_in n all)
+unfolding before
+radars_next settings all n =
+    let e : n + 1 ≡ suc n = omega arith in
+    ap (λ m. (state_before settings all m).radars) e ∙ radars_move (state_before settings all n) n (at_slot slot_in n all)
+
 -- ---- a log
 
 module _ (settings : Settings) (log : History) (all : List Entry) (o : AreEntriesOf log all) where
@@ -124,6 +130,10 @@ module _ (settings : Settings) (log : History) (all : List Entry) (o : AreEntrie
   pub radars_are : (n radar : ℕ) → slice_get (state_before settings all (n + 1)).radars radar ≡ radar_among settings (entries_of log) radar n
   radars_are n radar = let e : suc n ≡ n + 1 = omega arith in ap (λ m. slice_get (state_before settings all m).radars radar) (sym e) ∙ after_slot n radar
 
+  pub radars_below : (n : ℕ) → (state_before settings all n).radars ≡ radars_after settings.radars (below slot_in n all)
+  unfolding radars_after
+  radars_below n = radars_before n
+
   abbrev own_radars : ℕ → List RadarSettings
   own_radars n = radars_after (state_before settings all n).radars (at_slot slot_in n all)
 
@@ -132,7 +142,7 @@ module _ (settings : Settings) (log : History) (all : List Entry) (o : AreEntrie
   slot_radars n radar = ap (λ rs. slice_get rs radar) (sym (radars_move (state_before settings all n) n (at_slot slot_in n all))) ∙ after_slot n radar
 
   -- the plots of a slot that is over are the log's
-  planes_are : (n : ℕ) → n < slot_of (last_of log) → planes (own_radars n) (at_slot slot_in n all) ≡ at_slot slot_of_plot n (plots_of settings log)
+  pub planes_are : (n : ℕ) → n < slot_of (last_of log) → planes (own_radars n) (at_slot slot_in n all) ≡ at_slot slot_of_plot n (plots_of settings log)
   planes_are n over =
       all_shown settings log n over (own_radars n) (slot_radars n) (at_slot slot_in n all) (at_is slot_in n all)
       ∙ sym (plots_at (shown settings log) (own_key settings log) n all)

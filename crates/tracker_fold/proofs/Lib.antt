@@ -1,3 +1,5 @@
+pub mod Certified
+pub mod FilledSlots
 pub mod Folded
 pub mod Greatest
 pub mod Held

@@ -1,5 +1,6 @@
 -- The step of a slot with plots, and of one without.
-use Rattle.std.proofs.Common.{◌≡◌, ◌∙◌, ap, sym, refl, ℕ, ◌<◌, List, [], ◌∷◌, ◌++◌, length, arith, subst}
+use Rattle.std.proofs.Common.{◌≡◌, ◌∙◌, ap, sym, refl, ℕ, ◌<◌, List, [], ◌∷◌, ◌++◌, Bool, true, false, eqb, length, arith, subst}
+use Rattle.std.proofs.lemmas.Bool.{eqb-true, eqb-false}
 use Rattle.std.specs.Prelude.{Contains}
 use Rattle.std.specs.List.{AllByRecursion}
 use Rattle.std.specs.List.Sorted.{IsStrictlySortedBy}
@@ -14,13 +15,22 @@ use Rattle.slot_step.specs.OneBatch.{Batch, IsBatch}
 use Rattle.slot_step.specs.Calls.{AreBatches, plots_of}
 use Rattle.slot_step.specs.Tracker.{step_tracks}
 use Rattle.slot_step.specs.Told.{AreTold}
+use Rattle.admission_log.specs.declared.entries.Entry.{Entry}
 use Rattle.tracker_fold.specs.declared.state.TrackerState.{TrackerState}
-use Rattle.tracker_fold.specs.Steps.{moved, AreCertified}
+use Rattle.tracker_fold.specs.Steps.{radars_after, planes, moved, next, AreCertified}
 
 -- ---- no plots
 
 none_there : {X : Type 0} (x : X) → Contains [] x → ⊥
 none_there x c = omega (arith, c.1)
+
+pub no_batches : {X : Type 0} (xs : List X) (len : ℕ) → len ≡ length xs → eqb len 0 ≡ true → xs ≡ []
+no_batches [] len e h = refl
+no_batches (x ∷ xs) len e h = absurd (let n : len ≡ 0 = eqb-true len 0 h in omega (arith, e, n))
+
+pub some_batches : {X : Type 0} (xs : List X) (len : ℕ) → len ≡ length xs → eqb len 0 ≡ false → 0 < length xs
+some_batches [] len e h = absurd (eqb-false len 0 h (omega (arith, e)))
+some_batches (x ∷ xs) len e h = omega arith
 
 pub none_told : (life : LifeSettings) (ts : List TrackState) (n : ℕ) → AreTold life ts n [] []
 unfolding IsStrictlySortedBy
@@ -51,3 +61,13 @@ stepped_some life ts n (p ∷ ps) lt = refl
 pub moves : (s : TrackerState) (radars radars' : List RadarSettings) (slot : ℕ) (bs : List Batch) (table : List TrackState) → AllByRecursion IsBatch bs → 0 < length bs → radars' ≡ radars → table ≡ step_tracks s.life s.table slot (plots_of bs)
     → record { life = s.life; radars = radars'; table = table } ≡ moved s radars slot (plots_of bs)
 moves s radars radars' slot bs table each lt f g = λ i. record { life = s.life; radars = f i; table = (g ∙ stepped_some s.life s.table slot (plots_of bs) (some_plots bs each lt)) i }
+
+pub certified : (s : TrackerState) (slot : ℕ) (bs bs' : List Batch) (certs certs' : List KeyedCert) → bs' ≡ bs → certs' ≡ certs → AreTold s.life s.table slot (plots_of bs') certs' → AllByRecursion (λ c. IsCert c.cert) certs' → AreCertified s slot (plots_of bs) certs
+certified s slot bs bs' certs certs' e f h g =
+    subst (λ (bs : List Batch). AreCertified s slot (plots_of bs) certs) e (subst (AreCertified s slot (plots_of bs')) f (record { told = h; whole = g }))
+
+-- ---- the entries' step
+
+pub next_is : (s : TrackerState) (slot : ℕ) (entries : List Entry) (radars : List RadarSettings) (plots : List PlanePlot) → radars ≡ radars_after s.radars entries → plots ≡ planes (radars_after s.radars entries) entries → moved s radars slot plots ≡ next s slot entries
+unfolding next
+next_is s slot entries radars plots e f = λ i. moved s (e i) slot (f i)

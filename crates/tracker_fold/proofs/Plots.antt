@@ -33,27 +33,33 @@ use Rattle.admission_log.proofs.Rising as rising
 use Rattle.tracker_fold.specs.Keys.{key_in}
 use Rattle.tracker_fold.specs.Steps.{plane, planes}
 use Rattle.tracker_fold.specs.Folds.{AreEntriesOf}
-use Rattle.tracker_fold.proofs.Planes.{HasKey, keys_rise}
+use Rattle.tracker_fold.specs.PlaneOrder.{HasKey, keys_rise}
 use Rattle.tracker_fold.proofs.SameOrder.{one_order}
 
 -- ---- sums over what is given
 
-given_sum : {X : Type 0} (h : X → Option PlanePlot) (f : PlanePlot → ℕ) → X → ℕ
+abbrev given_sum : {X : Type 0} (h : X → Option PlanePlot) (f : PlanePlot → ℕ) → X → ℕ
 given_sum h f x = sum_by f (cons_option (h x) [])
+
+only : {X : Type 0} (f : X → ℕ) (x : X) → sum_by f (x ∷ []) ≡ f x
+only f x = omega arith
 
 sums : {X : Type 0} (h : X → Option PlanePlot) (f : PlanePlot → ℕ) (xs : List X) → sum_by f (filter_map h xs) ≡ sum_by (given_sum h f) xs
 sums h f [] = refl
 sums {X} h f (x ∷ xs) =
     let first : (o : Option PlanePlot) → sum_by f (cons_option o (filter_map h xs)) ≡ sum_by f (cons_option o []) + sum_by f (filter_map h xs) =
-    λ o. elim o as (λ o. sum_by f (cons_option o (filter_map h xs)) ≡ sum_by f (cons_option o []) + sum_by f (filter_map h xs)) [ None ↦ refl | Some p ↦ sum_by-append f (p ∷ []) (filter_map h xs) ] in
+    λ o. elim o as (λ o. sum_by f (cons_option o (filter_map h xs)) ≡ sum_by f (cons_option o []) + sum_by f (filter_map h xs)) [ None ↦ omega arith | Some p ↦ sum_by-append f (p ∷ []) (filter_map h xs) ] in
     let more : sum_by (given_sum h f) (x ∷ xs) ≡ sum_by (given_sum h f) (x ∷ []) + sum_by (given_sum h f) xs = sum_by-append (given_sum h f) (x ∷ []) xs in
-    let one : sum_by (given_sum h f) (x ∷ []) ≡ given_sum h f x = omega arith in
-    omega (arith, first (h x), more, one, sums h f xs)
+    let one : sum_by (given_sum h f) (x ∷ []) ≡ given_sum h f x = only (given_sum h f) x in
+    first (h x) ∙ ap (λ n. given_sum h f x + n) (sums h f xs) ∙ sym (more ∙ ap (λ n. n + sum_by (given_sum h f) xs) one)
 
 -- ---- in rising key
 
+first_less : (a b : Ordering) → a ≡ Less → ordering_then a b ≡ Less
+first_less a b e = rw e refl
+
 by_key : (p q : PlanePlot) → key_cmp p.key q.key ≡ Less → is_lt (plot_cmp q p) ≡ false
-by_key p q less = ap is_lt (plot_cmp_total.antisymm q p ∙ ap ordering_reverse (ap (λ o. ordering_then o _) less))
+by_key p q less = ap is_lt (plot_cmp_total.antisymm q p ∙ ap ordering_reverse (first_less (key_cmp p.key q.key) _ less))
 
 rises : (ps : List PlanePlot) → IsStrictlySortedBy (λ p q. key_cmp p.key q.key) ps → rising.Rises ps
 unfolding IsStrictlySortedBy
@@ -66,7 +72,7 @@ rises (p ∷ ps) h = (none ps h.0, rises ps h.1)
 
 module _ (settings : Settings) (log : History) where
   -- an entry's plot in the plane by the log's biases, if its slot is over
-  pub shown : Entry → Option PlanePlot
+  abbrev pub shown : Entry → Option PlanePlot
   shown (Bias slot place radar bias) = None
   shown (Plot key raw) = cond (nat_lt key.slot (slot_of (last_of log))) (option_map (λ r. plane_plot r raw key) (radar_among settings (entries_of log) key.radar key.slot)) None
 

@@ -7,13 +7,14 @@ use Rattle.plot_geometry.specs.Biases.{biased}
 use Rattle.plot_geometry.specs.Plots.{PlanePlot}
 use Rattle.plot_geometry.specs.PlanePlots.{plane_plot}
 use Rattle.price_form.specs.Certificates.{IsCert}
-use Rattle.late_window.specs.Folding.{stepped}
+use Rattle.late_window.specs.Folding.{InSlot, stepped}
 use Rattle.slot_step.specs.declared.certs.KeyedCert.{KeyedCert}
 use Rattle.slot_step.specs.Tracker.{step_tracks}
 use Rattle.slot_step.specs.Calls.{AreFromBefore}
 use Rattle.slot_step.specs.Told.{AreTold}
 use Rattle.admission_log.specs.declared.entries.Entry.{Entry}
 use Rattle.admission_log.specs.declared.entries.Entry.TheVariants.{Bias, Plot}
+use Rattle.admission_log.specs.Entries.{slot_in}
 use Rattle.tracker_fold.specs.declared.state.TrackerState.{TrackerState}
 
 -- ---- radars: a change of biases holds from its slot on, for that slot's own plots too
@@ -40,6 +41,10 @@ plane radars (Plot key raw) = option_map (λ r. plane_plot r raw key) (slice_get
 
 abbrev pub planes : List RadarSettings → List Entry → List PlanePlot
 planes radars entries = filter_map (plane radars) entries
+
+-- entries of one slot
+abbrev pub AreOfOneSlot : List Entry → Type 0
+AreOfOneSlot entries = (n : ℕ) × InSlot slot_in n entries
 
 -- ---- the step
 

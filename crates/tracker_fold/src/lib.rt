@@ -10,6 +10,6 @@ mod state;
 mod step;
 
 pub use keys::EntryKey;
-pub use laws::folded_log;
+pub use laws::{folded_log, folded_radars};
 pub use state::TrackerState;
-pub use step::TrackerFold;
+pub use step::{TrackerFold, radars_after};

@@ -5,7 +5,7 @@ ghost use Rattle.admission_log.specs.EntryOrder.{entry_cmp};
 ghost use Rattle.late_window.specs.Folding.{Rises, InSlot};
 ghost use Rattle.slot_step.specs.Calls.{AreBatches, plots_of};
 ghost use Rattle.tracker_fold.specs.Keys.{key_in};
-ghost use Rattle.tracker_fold.specs.Steps.{changed, radars_after, plane, planes, moved, AreCertified, IsBefore};
+ghost use Rattle.tracker_fold.specs.Steps.{changed, radars_after, plane, planes, moved, AreCertified, AreOfOneSlot, IsBefore};
 
 use crate::{EntryKey, TrackerState};
 use admission_log::Entry;
@@ -96,8 +96,9 @@ impl Prepared {
         entries: &[Entry],
     ) -> Result<Prepared, NoMemory>
         requires rising { Rises entry_cmp key_in entries.now }
+        requires of_slot { AreOfOneSlot entries.now }
         ensures radars { IfOk result (λ p. p.radars.items ≡ radars_after before.now entries.now) }
-        ensures plots { (slot : ℕ) → InSlot slot_in slot entries.now → IfOk result (λ p. plots_of p.batches.items ≡ planes (radars_after before.now entries.now) entries.now) }
+        ensures plots { IfOk result (λ p. plots_of p.batches.items ≡ planes (radars_after before.now entries.now) entries.now) }
         ensures batches { (slot : ℕ) → InSlot slot_in slot entries.now → IfOk result (λ p. AreBatches slot p.batches.items) }
     {
         let radars = radars_after(alloc, before, entries)?;
@@ -147,9 +148,9 @@ fn unmoved(alloc: Global, table: &Table) -> Result<SlotRan, NoMemory>
     })
 }
 
-// The radars after the changes among entries.
+/// The radars after the changes of biases among entries, in their order.
 #[tactic(auto, unfolding(crate::specs::Steps::radars_after))]
-fn radars_after(
+pub fn radars_after(
     alloc: Global,
     before: &[RadarSettings],
     entries: &[Entry],
