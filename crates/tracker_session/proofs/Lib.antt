@@ -9,8 +9,6 @@ pub mod Logs
 pub mod Numerals
 pub mod OneEnd
 pub mod Outputs
-pub mod Packings
-pub mod Pictures
 pub mod Provings
 pub mod Refusing
 pub mod Replayed
