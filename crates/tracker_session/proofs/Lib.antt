@@ -1,4 +1,5 @@
 pub mod Alike
+pub mod Datagrams
 pub mod Deciding
 pub mod Faults
 pub mod Giving
@@ -6,6 +7,7 @@ pub mod GivingItems
 pub mod Inputs
 pub mod Items
 pub mod Logs
+pub mod Nexts
 pub mod Numerals
 pub mod OneEnd
 pub mod Outputs
