@@ -42,11 +42,13 @@ fn put_tick(alloc: Global, time: u32, octets: &mut Vec<u8>) -> Result<(), NoMemo
     Ok(())
 }
 
-// The octets of a scene whose plots are all there.
+// The most octets that a scene has, when no aircraft leaves the range of a radar: the header, a plot
+// of each aircraft and a north marker for each turn that a radar has begun, and the ticks.
 fn room(aircraft: u16, seconds: u16) -> usize {
-    let time = 128 * usize::from(seconds);
-    let turns = time / 512 + time / 640 + time / 1_280 + 3;
-    9 + turns * (26 * usize::from(aircraft) + 14) + 6 * (usize::from(seconds) + 10)
+    let time = SECOND * u32::from(seconds);
+    let turns = time / RADARS[0].period + time / RADARS[1].period + time / RADARS[2].period + 3;
+    let turn = 26 * usize::from(aircraft) + 14;
+    9 + turns as usize * turn + 6 * (usize::from(seconds) + LAST_SECONDS as usize)
 }
 
 /// The recording of a scene of a seed: so many aircraft are seen by three radars for so many

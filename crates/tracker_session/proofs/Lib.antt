@@ -2,6 +2,7 @@ pub mod Alike
 pub mod Deciding
 pub mod Faults
 pub mod Giving
+pub mod GivingItems
 pub mod Inputs
 pub mod Items
 pub mod Logs
