@@ -1,7 +1,9 @@
 // Slots whose tracks were worked by hand.
-ghost use Rattle.std.specs.Prelude.{◌≡◌, ◌≤◌};
+ghost use Rattle.std.specs.Prelude.{◌≡◌, ◌≤◌, All, IfOk};
+ghost use Rattle.price_form.specs.Certificates.{IsCert};
+ghost use Rattle.slot_step.specs.Calls.{AreBatches};
 
-use crate::{are_slot_plots, batches_of, slot_run, slot_step};
+use crate::{Batch, KeyedCert, are_slot_plots, batches_of, slot_run, slot_step};
 use plot_geometry::PlanePlot;
 use price_form::check;
 use std::alloc::Global;
@@ -102,6 +104,31 @@ fn life_of(hits: u8) -> LifeSettings
     }
 }
 
+// The batches of a slot.
+fn batches_in(
+    rt: &impl Abort,
+    alloc: Global,
+    slot: u64,
+    plots: &[PlanePlot],
+) -> Result<Vec<Batch>, Fail>
+    ensures { IfOk result (λ v. AreBatches slot v.items) }
+{
+    assert!(rt; are_slot_plots(slot, plots));
+    Ok(batches_of(alloc, plots)?)
+}
+
+// Whether all these certificates prove.
+fn all_prove(certs: &[KeyedCert]) -> bool
+    requires { All (λ c. IsCert c.cert) certs.now }
+{
+    for keyed in certs {
+        if !check(&keyed.cert) {
+            return false;
+        }
+    }
+    true
+}
+
 // The table after the scene's slots.
 fn fold<L: Ledger>(
     rt: &impl Abort,
@@ -112,15 +139,13 @@ fn fold<L: Ledger>(
 ) -> Result<Table, Fail> {
     let mut table = Table::empty(alloc);
     for slot in 72_000..72_003 {
-        let plots = plots_in(alloc, slot, rows)?;
-        assert!(rt; are_slot_plots(slot, &plots));
-        let batches = batches_of(alloc, &plots)?;
+        let batches = batches_in(rt, alloc, slot, &plots_in(alloc, slot, rows)?)?;
         let mut ticket = charge(2, steps);
         let run = slot_run(alloc, &table, slot, &batches, life, &mut ticket)?;
         let step = slot_step(alloc, &table, slot, &batches, life, &mut ticket)?;
         assert_eq!(rt; run.table.tracks().len(), step.table.tracks().len());
         assert_eq!(rt; run.certs.len(), step.certs.len());
-        assert!(rt; step.certs.as_slice().iter().all(|keyed| check(&keyed.cert)));
+        assert!(rt; all_prove(step.certs.as_slice()));
         table = step.table;
     }
     Ok(table)
