@@ -2,8 +2,8 @@ use Rattle.std.proofs.Common.{rules, ◌≡◌, ◌-◌, List, length, take, dro
 use Rattle.std.proofs.lemmas.List.{take_all, length-drop}
 use Rattle.std.proofs.lemmas.List.Sorted.{IsPartitionPoint-from_clause, IsPartitionedBy-ltb}
 use Rattle.assignment_dual.specs.Problems.{Edge}
-use Rattle.slot_step.proofs.PartEdges.{plots_rise, in_halves, edges_cut}
-use Rattle.slot_step.proofs.parts.gates_at.Goals as goal
+use Rattle.slot_step.proofs.ComponentEdges.{plots_rise, in_halves, edges_cut}
+use Rattle.slot_step.proofs.component_costs.gates_at.Goals as goal
 
 pub returns : goal.returns
 returns c =

@@ -16,6 +16,6 @@ abbrev pub own_edge : List ℕ → ℕ → Edge → Edge
 own_edge tracks i e = (i, index_of tracks e.1, e.2)
 
 -- the edges of these plots, of which the first has index i in the component
-abbrev pub part_edges : List Edge → List ℕ → ℕ → List ℕ → List Edge
-part_edges edges tracks i [] = []
-part_edges edges tracks i (plot ∷ plots) = map (own_edge tracks i) (edges_at edges plot) ++ part_edges edges tracks (suc i) plots
+abbrev pub component_edges : List Edge → List ℕ → ℕ → List ℕ → List Edge
+component_edges edges tracks i [] = []
+component_edges edges tracks i (plot ∷ plots) = map (own_edge tracks i) (edges_at edges plot) ++ component_edges edges tracks (suc i) plots

@@ -15,12 +15,12 @@ use Rattle.cluster_split.proofs.Ranges.{rises_far, kept_in}
 use Rattle.cluster_split.proofs.Classes.{mapped, from_mapped}
 use Rattle.slot_step.specs.Certificates.{IsAt}
 use Rattle.slot_step.specs.Components.{edge_pairs}
-use Rattle.slot_step.specs.PartGates.{index_of, edges_at, own_edge, part_edges}
+use Rattle.slot_step.specs.ComponentEdges.{index_of, edges_at, own_edge, component_edges}
 use Rattle.slot_step.proofs.Interleavings.{contains_first, contains_later, contains_none, all_of, all_contains, all_filter, in_filter, filter_passes}
 use Rattle.slot_step.proofs.Certifying.{within, at_contains}
 use Rattle.slot_step.proofs.Components.{at_get, get_at}
 use Rattle.slot_step.proofs.Edges.{Rising, by_index, rising_append, all_by_index, from_none}
-use Rattle.slot_step.proofs.PartEdges.{index_at}
+use Rattle.slot_step.proofs.ComponentEdges.{index_at}
 
 -- a rising list of numbers below n has at most n of them
 far : (ns : List ℕ) → IsStrictlyIncreasing ns → (k : ℕ) → k < length ns → k ≤ get_or ns k 0
@@ -82,9 +82,9 @@ record IsOfPart (edges : List Edge) (tracks : List ℕ) (i : ℕ) (plots : List 
   pub cost : f.2 ≡ edge.2
 
 module _ (edges : List Edge) (tracks : List ℕ) where
-  of_part : (i : ℕ) (plots : List ℕ) (f : Edge) → Contains (part_edges edges tracks i plots) f → IsOfPart edges tracks i plots f
+  of_part : (i : ℕ) (plots : List ℕ) (f : Edge) → Contains (component_edges edges tracks i plots) f → IsOfPart edges tracks i plots f
   of_part i [] f c = contains_none f c
-  of_part i (plot ∷ plots) f c = elim (Contains-append_cases (map (own_edge tracks i) (edges_at edges plot)) (part_edges edges tracks (suc i) plots) f c) [
+  of_part i (plot ∷ plots) f c = elim (Contains-append_cases (map (own_edge tracks i) (edges_at edges plot)) (component_edges edges tracks (suc i) plots) f c) [
     | inl d ↦
         let m : (k : ℕ) × (k < length (edges_at edges plot)) × (own_edge tracks i (edge_at (edges_at edges plot) k) ≡ f) = from_mapped (own_edge tracks i) (edges_at edges plot) (0, 0, 0) f d in
         let e : Edge = edge_at (edges_at edges plot) m.0 in
@@ -105,17 +105,17 @@ module _ (edges : List Edge) (tracks : List ℕ) where
         record { offset = suc h.offset; plot = h.plot; there = h.there; is = omega (arith, h.is); edge = h.edge; known = h.known; of_plot = h.of_plot; track = h.track; cost = h.cost }
   ]
 
-  in_part : (i : ℕ) (plots : List ℕ) (m plot t cost : ℕ) → IsAt plots m plot → Contains edges (plot, t, cost) → Contains (part_edges edges tracks i plots) (i + m, index_of tracks t, cost)
+  in_part : (i : ℕ) (plots : List ℕ) (m plot t cost : ℕ) → IsAt plots m plot → Contains edges (plot, t, cost) → Contains (component_edges edges tracks i plots) (i + m, index_of tracks t, cost)
   in_part i [] m plot t cost a c = absurd a
   in_part i (q ∷ plots) zero plot t cost a c =
       let e : i ≡ i + 0 = omega arith in
-      Contains-append_left (map (own_edge tracks i) (edges_at edges q)) (part_edges edges tracks (suc i) plots) (i + 0, index_of tracks t, cost)
+      Contains-append_left (map (own_edge tracks i) (edges_at edges q)) (component_edges edges tracks (suc i) plots) (i + 0, index_of tracks t, cost)
       (subst (λ (n : ℕ). Contains (map (own_edge tracks i) (edges_at edges q)) (n, index_of tracks t, cost)) e
       (mapped (own_edge tracks i) (edges_at edges q) (plot, t, cost) (kept_in (λ f. eqb f.0 q) edges (plot, t, cost) c (eq-eqb plot q (sym a)))))
   in_part i (q ∷ plots) (suc m) plot t cost a c =
       let e : suc i + m ≡ i + suc m = omega arith in
-      Contains-append_right (map (own_edge tracks i) (edges_at edges q)) (part_edges edges tracks (suc i) plots) (i + suc m, index_of tracks t, cost)
-      (subst (λ (n : ℕ). Contains (part_edges edges tracks (suc i) plots) (n, index_of tracks t, cost)) e (in_part (suc i) plots m plot t cost a c))
+      Contains-append_right (map (own_edge tracks i) (edges_at edges q)) (component_edges edges tracks (suc i) plots) (i + suc m, index_of tracks t, cost)
+      (subst (λ (n : ℕ). Contains (component_edges edges tracks (suc i) plots) (n, index_of tracks t, cost)) e (in_part (suc i) plots m plot t cost a c))
 
   mapped_rises : (i plot : ℕ) (es : List Edge) → IsStrictlyIncreasing tracks → ((e : Edge) → Contains es e → (e.0 ≡ plot) × Contains tracks e.1) → Rising es → Rising (map (own_edge tracks i) es)
   mapped_rises i plot [] up k h = tt
@@ -128,17 +128,17 @@ module _ (edges : List Edge) (tracks : List ℕ) where
     mapped_rises i plot es up (λ f c. k f (contains_later e f es c)) h.1,
   )
 
-  part_rises : (i : ℕ) (plots : List ℕ) → Rising edges → IsStrictlyIncreasing tracks → ((plot : ℕ) (e : Edge) → Contains plots plot → Contains edges e → e.0 ≡ plot → Contains tracks e.1) → Rising (part_edges edges tracks i plots)
+  part_rises : (i : ℕ) (plots : List ℕ) → Rising edges → IsStrictlyIncreasing tracks → ((plot : ℕ) (e : Edge) → Contains plots plot → Contains edges e → e.0 ≡ plot → Contains tracks e.1) → Rising (component_edges edges tracks i plots)
   part_rises i [] h up k = tt
   part_rises i (plot ∷ plots) h up k =
-      rising_append (map (own_edge tracks i) (edges_at edges plot)) (part_edges edges tracks (suc i) plots)
+      rising_append (map (own_edge tracks i) (edges_at edges plot)) (component_edges edges tracks (suc i) plots)
       (mapped_rises i plot (edges_at edges plot) up (λ e c.
       let is : e.0 ≡ plot = eqb-true e.0 plot (filter_passes (λ g. eqb g.0 plot) e edges c) in
       (is, k plot e (contains_first plot plot plots refl) (in_filter (λ g. eqb g.0 plot) e edges c) is)) (filter_rises plot edges h))
       (part_rises (suc i) plots h up (λ q e c. k q e (contains_later plot q plots c)))
       (λ e c.
       let m : (n : ℕ) × (n < length (edges_at edges plot)) × (own_edge tracks i (edge_at (edges_at edges plot) n) ≡ e) = from_mapped (own_edge tracks i) (edges_at edges plot) (0, 0, 0) e c in
-      all_of (EdgeBefore e) (part_edges edges tracks (suc i) plots) (λ f d.
+      all_of (EdgeBefore e) (component_edges edges tracks (suc i) plots) (λ f d.
       let g : IsOfPart edges tracks (suc i) plots f = of_part (suc i) plots f d in
       inl (omega (arith, ap (λ (x : Edge). x.0) m.2, g.is))))
 
@@ -148,7 +148,7 @@ same_edge es e a b c p q r h = subst (Contains es) (λ i. (p i, q i, r i)) h
 module _ (whole : Problem) (p : IsProblem whole) (part : Component) (c : IsComponent whole.plots (edge_pairs whole.edges) part) where
   -- the component's own problem
   abbrev pub own : Problem
-  own = record { plots = length part.plots; tracks = length part.tracks; edges = part_edges whole.edges part.tracks 0 part.plots }
+  own = record { plots = length part.plots; tracks = length part.tracks; edges = component_edges whole.edges part.tracks 0 part.plots }
 
   pub few_plots : length part.plots ≤ whole.plots
   few_plots = few_below part.plots whole.plots c.plots_rise (λ m h. ((c.connected m).0 h).0)

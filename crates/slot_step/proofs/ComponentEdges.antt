@@ -9,7 +9,7 @@ use Rattle.std.proofs.lemmas.Bool.{cases_order}
 use Rattle.assignment_dual.specs.Problems.{Edge, edge_at}
 use Rattle.cluster_split.proofs.Ranges.{rises_far}
 use Rattle.price_form.specs.Checks.{Rises}
-use Rattle.slot_step.specs.PartGates.{index_of, edges_at}
+use Rattle.slot_step.specs.ComponentEdges.{index_of, edges_at}
 use Rattle.slot_step.proofs.Interleavings.{all_weaker}
 use Rattle.slot_step.proofs.Passing.{halves, passing, passing_rest}
 

@@ -27,7 +27,7 @@ pub record IsToldOf (ts : List TrackState) (ps : List PlanePlot) (part : Compone
 
 -- The component, a part of the batch's problem, has this pairing, and this tells its certificate. Its
 -- entries stand in the batch's pairing now, and the others are as they were.
-pub record IsPairedPart (ts : List TrackState) (ps : List PlanePlot) (whole : Problem) (part : Component) (keyed : KeyedCert) (before after : List (Option ℕ)) : Type 0 where
+pub record IsPairedComponent (ts : List TrackState) (ps : List PlanePlot) (whole : Problem) (part : Component) (keyed : KeyedCert) (before after : List (Option ℕ)) : Type 0 where
   pub costs : Problem
   pub pairing : List (Option ℕ)
   pub us : List ℤ
