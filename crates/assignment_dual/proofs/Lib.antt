@@ -18,6 +18,9 @@ pub mod Value
 pub mod Choices
 pub mod Candidates
 pub mod Prefixes
+pub mod Leaving
+pub mod Placing
+pub mod Placed
 pub mod Building
 pub mod Answer
 pub mod Existing

@@ -8,7 +8,7 @@ ghost use Rattle.assignment_dual.specs.Search.{vertex_at, NoneSeen};
 use crate::graph::Graph;
 use crate::prices::Prices;
 use crate::raise::{least_slack, shift};
-use crate::search::{Node, reach};
+use crate::search::{Node, Search, reach};
 use trk_base::NoMemory;
 
 // Forgets what a search has seen.
@@ -28,32 +28,32 @@ pub fn augment(
     graph: &Graph,
     prices: &mut Prices,
     mates: &mut [usize],
-    seen: &mut [bool],
-    tree: &mut Vec<Node>,
+    search: &mut Search,
     x: usize,
 ) -> Result<(), NoMemory>
     requires graph { IsGraph graph.now (length prices.old) }
     requires priced { IsDualFeasible graph.now (length prices.old) prices.old }
     requires mates { AreMatched graph.now (length prices.old) prices.old mates.old }
     requires pay { OthersPay (length prices.old) prices.old mates.old x }
-    requires seen { length seen.old ≡ length prices.old }
-    requires none_seen { NoneSeen seen.old }
+    requires seen { length search.old.seen.items ≡ length prices.old }
+    requires none_seen { NoneSeen search.old.seen.items }
     requires x { x < length prices.old }
     requires alone { get_or mates.old x 0 ≡ x }
     ensures priced { OnOk result (IsDualFeasible graph.now (length prices.old) prices.new) }
     ensures mates { OnOk result (AreMatched graph.now (length prices.old) prices.new mates.new) }
     ensures settled { OnOk result (IsAugmented (length prices.old) prices.old mates.old prices.new mates.new x) }
-    ensures none_seen { OnOk result (NoneSeen seen.new) }
+    ensures seen { OnOk result (length search.new.seen.items ≡ length prices.old) }
+    ensures none_seen { OnOk result (NoneSeen search.new.seen.items) }
 {
-    tree.clear();
-    tree.push(Node { vertex: x, from: 0 })?;
+    search.tree.clear();
+    search.tree.push(Node { vertex: x, from: 0 })?;
     'rounds: loop {
-        if reach(graph, prices, mates, seen, tree)? {
-            forget(seen, tree);
+        if reach(graph, prices, mates, search)? {
+            forget(&mut search.seen, &search.tree);
             return Ok(());
         }
-        let by = least_slack(graph, prices, mates, seen, tree);
-        shift(prices, mates, tree, by);
+        let by = least_slack(graph, prices, mates, &search.seen, &search.tree);
+        shift(prices, mates, &search.tree, by);
     }
 }
 
@@ -63,13 +63,12 @@ pub fn augment_all(
     graph: &Graph,
     prices: &mut Prices,
     mates: &mut [usize],
-    seen: &mut [bool],
-    tree: &mut Vec<Node>,
+    search: &mut Search,
 ) -> Result<(), NoMemory>
     requires graph { IsGraph graph.now (length prices.old) }
     requires plots { graph.now.plots ≤ length prices.old }
-    requires seen { length seen.old ≡ length prices.old }
-    requires none_seen { NoneSeen seen.old }
+    requires seen { length search.old.seen.items ≡ length prices.old }
+    requires none_seen { NoneSeen search.old.seen.items }
     requires count { length mates.old ≡ length prices.old }
     requires alone { (v : ℕ) → v < length prices.old → get_or mates.old v 0 ≡ v }
     requires out { (v : ℕ) → v < graph.now.plots → get_or prices.old v 0 ≡ 0 }
@@ -77,10 +76,11 @@ pub fn augment_all(
     ensures priced { OnOk result (IsDualFeasible graph.now (length prices.old) prices.new) }
     ensures mates { OnOk result (AreMatched graph.now (length prices.old) prices.new mates.new) }
     ensures full { OnOk result ((v : ℕ) → v < length prices.old → get_or mates.new v 0 ≡ v → get_or prices.new v 0 ≡ miss_cost) }
-    ensures none_seen { OnOk result (NoneSeen seen.new) }
+    ensures seen { OnOk result (length search.new.seen.items ≡ length prices.old) }
+    ensures none_seen { OnOk result (NoneSeen search.new.seen.items) }
 {
     for p in 0..graph.plots {
-        augment(graph, prices, mates, seen, tree, p)?;
+        augment(graph, prices, mates, search, p)?;
     }
     Ok(())
 }

@@ -8,7 +8,7 @@ ghost use Rattle.assignment_dual.specs.Vertices.{IsGraph, IsOptimal};
 use crate::augmenting::augment;
 use crate::graph::Graph;
 use crate::prices::Prices;
-use crate::search::{Node, unmatch};
+use crate::search::{Search, unmatch};
 use trk_base::NoMemory;
 
 /// Takes x out; its mate gets another place.
@@ -16,27 +16,27 @@ pub fn take_out(
     graph: &Graph,
     prices: &mut Prices,
     mates: &mut [usize],
-    seen: &mut [bool],
-    tree: &mut Vec<Node>,
+    search: &mut Search,
     gone: &mut [bool],
     x: usize,
 ) -> Result<(), NoMemory>
     requires graph { IsGraph graph.now (length prices.old) }
     requires resting { IsOptimal graph.now (length prices.old) prices.old mates.old gone.old }
-    requires seen { length seen.old ≡ length prices.old }
-    requires none_seen { NoneSeen seen.old }
+    requires seen { length search.old.seen.items ≡ length prices.old }
+    requires none_seen { NoneSeen search.old.seen.items }
     requires count { length gone.old ≡ length prices.old }
     requires x { x < length prices.old }
     requires here { get_or gone.old x false ≡ false }
     ensures gone { OnOk result (gone.new ≡ slice_set gone.old x true) }
     ensures resting { OnOk result (IsOptimal graph.now (length prices.old) prices.new mates.new gone.new) }
-    ensures none_seen { OnOk result (NoneSeen seen.new) }
+    ensures seen { OnOk result (length search.new.seen.items ≡ length prices.old) }
+    ensures none_seen { OnOk result (NoneSeen search.new.seen.items) }
 {
     gone[x] = true;
     prices.set(x, 0);
     let y = unmatch(mates, x);
     if y != x {
-        augment(graph, prices, mates, seen, tree, y)?;
+        augment(graph, prices, mates, search, y)?;
     }
     Ok(())
 }
@@ -46,24 +46,24 @@ pub fn put_back(
     graph: &Graph,
     prices: &mut Prices,
     mates: &mut [usize],
-    seen: &mut [bool],
-    tree: &mut Vec<Node>,
+    search: &mut Search,
     gone: &mut [bool],
     x: usize,
 ) -> Result<(), NoMemory>
     requires graph { IsGraph graph.now (length prices.old) }
     requires resting { IsOptimal graph.now (length prices.old) prices.old mates.old gone.old }
-    requires seen { length seen.old ≡ length prices.old }
-    requires none_seen { NoneSeen seen.old }
+    requires seen { length search.old.seen.items ≡ length prices.old }
+    requires none_seen { NoneSeen search.old.seen.items }
     requires count { length gone.old ≡ length prices.old }
     requires x { x < length prices.old }
     requires away { get_or gone.old x false ≡ true }
     ensures gone { OnOk result (gone.new ≡ slice_set gone.old x false) }
     ensures resting { OnOk result (IsOptimal graph.now (length prices.old) prices.new mates.new gone.new) }
-    ensures none_seen { OnOk result (NoneSeen seen.new) }
+    ensures seen { OnOk result (length search.new.seen.items ≡ length prices.old) }
+    ensures none_seen { OnOk result (NoneSeen search.new.seen.items) }
 {
     gone[x] = false;
-    augment(graph, prices, mates, seen, tree, x)
+    augment(graph, prices, mates, search, x)
 }
 
 /// Takes x and its mate, which is answered, out together. Nobody needs another place.

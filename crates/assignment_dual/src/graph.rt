@@ -1,7 +1,7 @@
 // Plots and tracks as vertices, with the arcs between them.
 
 /// One way along an edge.
-#[derive(Clone, Copy, PartialEq, Eq, PartialOrd, Ord)]
+#[derive(Clone, Copy)]
 pub struct Arc {
     /// The vertex that it leaves.
     pub from: usize,

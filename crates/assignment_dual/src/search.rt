@@ -18,6 +18,15 @@ pub struct Node {
     pub from: usize,
 }
 
+/// A search for a place for the root of its tree.
+#[derive(Drop)]
+pub struct Search {
+    /// Whether each vertex has a node other than the root's.
+    pub seen: Vec<bool>,
+    /// The root's node, then one for each vertex that is seen.
+    pub tree: Vec<Node>,
+}
+
 /// The mate of a node's vertex.
 pub fn mate_of(mates: &[usize], tree: &[Node], i: usize) -> usize
     requires i { i < length tree.now }
@@ -68,38 +77,38 @@ fn sweep(
     graph: &Graph,
     prices: &Prices,
     mates: &[usize],
-    seen: &mut [bool],
-    tree: &mut Vec<Node>,
+    search: &mut Search,
     at: usize,
 ) -> Result<Option<usize>, NoMemory>
     requires graph { IsGraph graph.now (length prices.now) }
     requires priced { IsDualFeasible graph.now (length prices.now) prices.now }
     requires mates { AreMatched graph.now (length prices.now) prices.now mates.now }
-    requires pay { OthersPay (length prices.now) prices.now mates.now (vertex_at tree.old.items 0) }
-    requires alone { mate_at mates.now tree.old.items 0 ≡ vertex_at tree.old.items 0 }
-    requires seen { length seen.old ≡ length prices.now }
-    requires tree { IsSearchTree graph.now (length prices.now) prices.now mates.now seen.old tree.old.items (vertex_at tree.old.items 0) }
-    requires paired { ArePaired mates.now tree.old.items (length tree.old.items) }
-    requires at { at < length tree.old.items }
-    requires below { get_or prices.now (mate_at mates.now tree.old.items at) 0 ≢ miss_cost }
-    ensures tree { OnOk result (IsSearchTree graph.now (length prices.now) prices.now mates.now seen.new tree.new.items (vertex_at tree.old.items 0)) }
-    ensures kept { OnOk result ((y : ℕ) → get_or seen.old y false ≡ true → get_or seen.new y false ≡ true) }
-    ensures front { OnOk result (IsExtended tree.old.items tree.new.items) }
-    ensures grown { OnOk result (length tree.new.items + unseen seen.new ≡ length tree.old.items + unseen seen.old) }
+    requires pay { OthersPay (length prices.now) prices.now mates.now (vertex_at search.old.tree.items 0) }
+    requires alone { mate_at mates.now search.old.tree.items 0 ≡ vertex_at search.old.tree.items 0 }
+    requires seen { length search.old.seen.items ≡ length prices.now }
+    requires tree { IsSearchTree graph.now (length prices.now) prices.now mates.now search.old.seen.items search.old.tree.items (vertex_at search.old.tree.items 0) }
+    requires paired { ArePaired mates.now search.old.tree.items (length search.old.tree.items) }
+    requires at { at < length search.old.tree.items }
+    requires below { get_or prices.now (mate_at mates.now search.old.tree.items at) 0 ≢ miss_cost }
+    ensures tree { OnOk result (IsSearchTree graph.now (length prices.now) prices.now mates.now search.new.seen.items search.new.tree.items (vertex_at search.old.tree.items 0)) }
+    ensures seen { OnOk result (length search.new.seen.items ≡ length prices.now) }
+    ensures kept { OnOk result ((y : ℕ) → get_or search.old.seen.items y false ≡ true → get_or search.new.seen.items y false ≡ true) }
+    ensures front { OnOk result (IsExtended search.old.tree.items search.new.tree.items) }
+    ensures grown { OnOk result (length search.new.tree.items + unseen search.new.seen.items ≡ length search.old.tree.items + unseen search.old.seen.items) }
     ensures answer { IfOk result (λ end. MatchOption end
-        (ArePaired mates.now tree.new.items (length tree.new.items) × IsSwept graph.now prices.now seen.new (mate_at mates.now tree.old.items at))
-        (λ e. IsEnd prices.now mates.now tree.new.items e)) }
+        (ArePaired mates.now search.new.tree.items (length search.new.tree.items) × IsSwept graph.now prices.now search.new.seen.items (mate_at mates.now search.old.tree.items at))
+        (λ e. IsEnd prices.now mates.now search.new.tree.items e)) }
 {
-    let x = mate_of(mates, tree, at);
+    let x = mate_of(mates, &search.tree, at);
     for k in graph.first[x]..graph.first[x + 1] {
-        if let Some(y) = opens(graph, prices, seen, x, k) {
-            seen[y] = true;
-            tree.push(Node {
+        if let Some(y) = opens(graph, prices, &search.seen, x, k) {
+            search.seen[y] = true;
+            search.tree.push(Node {
                 vertex: y,
                 from: at,
             })?;
             if mates[y] == y {
-                return Ok(Some(tree.len() - 1));
+                return Ok(Some(search.tree.len() - 1));
             }
         }
     }
@@ -112,28 +121,28 @@ fn grow(
     graph: &Graph,
     prices: &Prices,
     mates: &[usize],
-    seen: &mut [bool],
-    tree: &mut Vec<Node>,
+    search: &mut Search,
 ) -> Result<Option<usize>, NoMemory>
     requires graph { IsGraph graph.now (length prices.now) }
     requires priced { IsDualFeasible graph.now (length prices.now) prices.now }
     requires mates { AreMatched graph.now (length prices.now) prices.now mates.now }
-    requires pay { OthersPay (length prices.now) prices.now mates.now (vertex_at tree.old.items 0) }
-    requires alone { mate_at mates.now tree.old.items 0 ≡ vertex_at tree.old.items 0 }
-    requires seen { length seen.old ≡ length prices.now }
-    requires tree { IsSearchTree graph.now (length prices.now) prices.now mates.now seen.old tree.old.items (vertex_at tree.old.items 0) }
-    requires paired { ArePaired mates.now tree.old.items (length tree.old.items) }
-    ensures tree { OnOk result (IsSearchTree graph.now (length prices.now) prices.now mates.now seen.new tree.new.items (vertex_at tree.old.items 0)) }
+    requires pay { OthersPay (length prices.now) prices.now mates.now (vertex_at search.old.tree.items 0) }
+    requires alone { mate_at mates.now search.old.tree.items 0 ≡ vertex_at search.old.tree.items 0 }
+    requires seen { length search.old.seen.items ≡ length prices.now }
+    requires tree { IsSearchTree graph.now (length prices.now) prices.now mates.now search.old.seen.items search.old.tree.items (vertex_at search.old.tree.items 0) }
+    requires paired { ArePaired mates.now search.old.tree.items (length search.old.tree.items) }
+    ensures tree { OnOk result (IsSearchTree graph.now (length prices.now) prices.now mates.now search.new.seen.items search.new.tree.items (vertex_at search.old.tree.items 0)) }
+    ensures seen { OnOk result (length search.new.seen.items ≡ length prices.now) }
     ensures answer { IfOk result (λ end. MatchOption end
-        (IsExhausted graph.now prices.now mates.now seen.new tree.new.items)
-        (λ e. IsEnd prices.now mates.now tree.new.items e)) }
+        (IsExhausted graph.now prices.now mates.now search.new.seen.items search.new.tree.items)
+        (λ e. IsEnd prices.now mates.now search.new.tree.items e)) }
 {
     let mut next = 0;
-    'nodes: while next < tree.len() {
-        if prices.at(mate_of(mates, tree, next)) == MISS_COST {
+    'nodes: while next < search.tree.len() {
+        if prices.at(mate_of(mates, &search.tree, next)) == MISS_COST {
             return Ok(Some(next));
         }
-        if let Some(end) = sweep(graph, prices, mates, seen, tree, next)? {
+        if let Some(end) = sweep(graph, prices, mates, search, next)? {
             return Ok(Some(end));
         }
         next += 1;
@@ -177,31 +186,31 @@ pub fn reach(
     graph: &Graph,
     prices: &Prices,
     mates: &mut [usize],
-    seen: &mut [bool],
-    tree: &mut Vec<Node>,
+    search: &mut Search,
 ) -> Result<bool, NoMemory>
     requires graph { IsGraph graph.now (length prices.now) }
     requires priced { IsDualFeasible graph.now (length prices.now) prices.now }
     requires mates { AreMatched graph.now (length prices.now) prices.now mates.old }
-    requires pay { OthersPay (length prices.now) prices.now mates.old (vertex_at tree.old.items 0) }
-    requires alone { mate_at mates.old tree.old.items 0 ≡ vertex_at tree.old.items 0 }
-    requires seen { length seen.old ≡ length prices.now }
-    requires tree { IsSearchTree graph.now (length prices.now) prices.now mates.old seen.old tree.old.items (vertex_at tree.old.items 0) }
-    requires paired { ArePaired mates.old tree.old.items (length tree.old.items) }
+    requires pay { OthersPay (length prices.now) prices.now mates.old (vertex_at search.old.tree.items 0) }
+    requires alone { mate_at mates.old search.old.tree.items 0 ≡ vertex_at search.old.tree.items 0 }
+    requires seen { length search.old.seen.items ≡ length prices.now }
+    requires tree { IsSearchTree graph.now (length prices.now) prices.now mates.old search.old.seen.items search.old.tree.items (vertex_at search.old.tree.items 0) }
+    requires paired { ArePaired mates.old search.old.tree.items (length search.old.tree.items) }
     ensures mates { OnOk result (AreMatched graph.now (length prices.now) prices.now mates.new) }
-    ensures tree { OnOk result (IsSearchTree graph.now (length prices.now) prices.now mates.old seen.new tree.new.items (vertex_at tree.old.items 0)) }
+    ensures tree { OnOk result (IsSearchTree graph.now (length prices.now) prices.now mates.old search.new.seen.items search.new.tree.items (vertex_at search.old.tree.items 0)) }
+    ensures seen { OnOk result (length search.new.seen.items ≡ length prices.now) }
     ensures answer { IfOk result (λ placed. MatchBool placed
-        (IsMatchedAfter (length prices.now) prices.now mates.old mates.new (vertex_at tree.old.items 0))
-        ((mates.new ≡ mates.old) × IsExhausted graph.now prices.now mates.old seen.new tree.new.items)) }
+        (IsMatchedAfter (length prices.now) prices.now mates.old mates.new (vertex_at search.old.tree.items 0))
+        ((mates.new ≡ mates.old) × IsExhausted graph.now prices.now mates.old search.new.seen.items search.new.tree.items)) }
 {
-    let Some(end) = grow(graph, prices, mates, seen, tree)? else {
+    let Some(end) = grow(graph, prices, mates, search)? else {
         return Ok(false);
     };
-    unmatch(mates, tree[end].vertex);
+    unmatch(mates, search.tree[end].vertex);
     let mut at = end;
     'path: while at > 0 {
-        let node = tree[at];
-        let mate = mate_of(mates, tree, node.from);
+        let node = search.tree[at];
+        let mate = mate_of(mates, &search.tree, node.from);
         take(mates, node.vertex, mate);
         at = node.from;
     }

@@ -13,7 +13,7 @@ use crate::augmenting::augment_all;
 use crate::build::graph_of;
 use crate::graph::Graph;
 use crate::prices::Prices;
-use crate::search::Node;
+use crate::search::Search;
 use crate::single::solve_single;
 use crate::tie::first_pairing;
 use crate::{Costs, Solved};
@@ -83,15 +83,14 @@ fn answer(
     graph: &Graph,
     prices: &mut Prices,
     mates: &mut [usize],
-    seen: &mut [bool],
-    tree: &mut Vec<Node>,
+    search: &mut Search,
     gone: &mut [bool],
 ) -> Result<Solved, NoMemory>
     requires graph { IsGraph graph.now (length prices.old) }
     requires plots { graph.now.plots ≤ length prices.old }
     requires tracks { length prices.old < graph.now.plots + 2 ^ 32 }
-    requires seen { length seen.old ≡ length prices.old }
-    requires none_seen { NoneSeen seen.old }
+    requires seen { length search.old.seen.items ≡ length prices.old }
+    requires none_seen { NoneSeen search.old.seen.items }
     requires count { length mates.old ≡ length prices.old }
     requires alone { (v : ℕ) → v < length prices.old → get_or mates.old v 0 ≡ v }
     requires out { (v : ℕ) → v < graph.now.plots → get_or prices.old v 0 ≡ 0 }
@@ -101,11 +100,11 @@ fn answer(
     ensures { IfOk result (λ s. (p : Problem) → IsProblem p → graph.now.plots ≡ p.plots → length prices.old ≡ p.plots + p.tracks
         → ShowsRest graph.now (length prices.old) p.tracks gone.old 0 (rows_of p) → IsSolvedBy p s.pairing s.u s.v s.cost) }
 {
-    augment_all(graph, prices, mates, seen, tree)?;
+    augment_all(graph, prices, mates, search)?;
     let u = plot_prices(alloc, &prices.as_slice()[..graph.plots])?;
     let v = track_prices(alloc, &prices.as_slice()[graph.plots..])?;
     let cost = proven_cost(prices, prices.len() - graph.plots);
-    let pairing = first_pairing(alloc, graph, prices, mates, seen, tree, gone)?;
+    let pairing = first_pairing(alloc, graph, prices, mates, search, gone)?;
     Ok(Solved {
         pairing: Sequence::of(pairing),
         u: Sequence::of(u),
@@ -138,16 +137,17 @@ fn solve_many(alloc: Global, costs: &Costs) -> Result<Solved, NoMemory>
     let graph = graph_of(alloc, costs)?;
     let mut prices = Prices::of(first_prices(alloc, plots, plots + tracks)?);
     let mut mates = first_mates(alloc, plots + tracks)?;
-    let mut seen = vec![in alloc; false; plots + tracks]?;
     let mut gone = vec![in alloc; false; plots + tracks]?;
-    let mut tree = Vec::with_capacity(alloc, plots + tracks)?;
+    let mut search = Search {
+        seen: vec![in alloc; false; plots + tracks]?,
+        tree: Vec::with_capacity(alloc, plots + tracks)?,
+    };
     answer(
         alloc,
         &graph,
         &mut prices,
         &mut mates,
-        &mut seen,
-        &mut tree,
+        &mut search,
         &mut gone,
     )
 }

@@ -44,49 +44,64 @@ fn with_edge(mut costs: Costs, edge: (u32, u32, u16)) -> Result<Costs, NoMemory>
     Ok(costs)
 }
 
-// The answer, where there is memory.
-fn solved(alloc: Global, costs: &Costs) -> Result<Solved, Fail> {
-    Ok(solve(alloc, costs).map_err(|_| "no memory")?)
+// The problem with these edges, which stand in order.
+fn problem(
+    alloc: Global,
+    plots: u32,
+    tracks: u32,
+    edges: &[(u32, u32, u16)],
+) -> Result<Costs, NoMemory> {
+    let mut costs = bare(alloc, plots, tracks);
+    for edge in edges {
+        costs = with_edge(costs, *edge)?;
+    }
+    Ok(costs)
+}
+
+// Whether this pairing is the answer to the problem, and to a copy of it.
+fn answers(
+    alloc: Global,
+    costs: &Costs,
+    pairing: &[Option<u32>],
+    cost: i64,
+) -> Result<bool, NoMemory> {
+    let copy = costs.copy(alloc)?;
+    let answer = solve(alloc, &copy)?;
+    Ok(copy == *costs && answer.pairing.as_slice() == pairing && answer.cost == cost)
 }
 
 #[test]
 fn takes_the_first_of_equal_pairings(rt: HostRuntime) -> Result<(), Fail> {
-    let mut costs = bare(rt.alloc(), 2, 2);
-    for edge in [(0, 0, 1), (0, 1, 2), (1, 0, 1), (1, 1, 2)] {
-        costs = with_edge(costs, edge).map_err(|_| "no memory")?;
+    let square = [(0, 0, 1), (0, 1, 2), (1, 0, 1), (1, 1, 2)];
+    let row = [(0, 0, 5), (0, 1, 3), (0, 2, 3)];
+    // Two plots with two tracks, nothing, two plots that no track gates, and one plot.
+    for (plots, tracks, edges, pairing, cost) in [
+        (2, 2, square.as_slice(), [Some(0), Some(1)].as_slice(), 3),
+        (0, 0, [].as_slice(), [].as_slice(), 0),
+        (2, 1, [].as_slice(), [None, None].as_slice(), 2 * 4097),
+        (1, 4, row.as_slice(), [Some(1)].as_slice(), 3),
+        (1, 1, [].as_slice(), [None].as_slice(), 4097),
+    ] {
+        let costs = problem(rt.alloc(), plots, tracks, edges).map_err(|_| "no memory")?;
+        let answers = answers(rt.alloc(), &costs, pairing, cost).map_err(|_| "no memory")?;
+        assert!(rt; answers);
     }
-    let answer = solved(rt.alloc(), &costs)?;
-    assert_eq!(rt; answer.pairing.as_slice(), [Some(0), Some(1)].as_slice());
-    assert_eq!(rt; answer.cost, 3);
     Ok(())
 }
 
-#[test]
-fn needs_no_plots_and_no_edges(rt: HostRuntime) -> Result<(), Fail> {
-    let nothing = solved(rt.alloc(), &bare(rt.alloc(), 0, 0))?;
-    assert_eq!(rt; nothing.pairing.len(), 0);
-    assert_eq!(rt; nothing.cost, 0);
-    let alone = solved(rt.alloc(), &bare(rt.alloc(), 2, 1))?;
-    assert_eq!(rt; alone.pairing.as_slice(), [None, None].as_slice());
-    assert_eq!(rt; alone.cost, 2 * 4097);
-    Ok(())
+// The prices of a plot and of its tracks, where there is one.
+fn prices(alloc: Global, costs: &Costs) -> Result<(Sequence<i64>, Sequence<i64>), NoMemory> {
+    let Solved { u, v, .. } = solve(alloc, costs)?;
+    Ok((u, v))
 }
 
 #[test]
-fn pairs_one_plot(rt: HostRuntime) -> Result<(), Fail> {
-    let mut costs = bare(rt.alloc(), 1, 4);
-    for edge in [(0, 0, 5), (0, 1, 3), (0, 2, 3)] {
-        costs = with_edge(costs, edge).map_err(|_| "no memory")?;
-    }
-    let copy = costs.copy(rt.alloc()).map_err(|_| "no memory")?;
-    let answer = solved(rt.alloc(), &copy)?;
-    assert_eq!(rt; answer.pairing.as_slice(), [Some(1)].as_slice());
-    assert_eq!(rt; answer.u.as_slice(), [3].as_slice());
-    assert_eq!(rt; answer.v.as_slice(), [0, 0, 0, 0].as_slice());
-    assert_eq!(rt; answer.cost, 3);
-    let alone = solved(rt.alloc(), &bare(rt.alloc(), 1, 1))?;
-    assert_eq!(rt; alone.pairing.as_slice(), [None].as_slice());
-    assert_eq!(rt; alone.u.as_slice(), [4097].as_slice());
+fn prices_one_plot(rt: HostRuntime) -> Result<(), Fail> {
+    let row = [(0, 0, 5), (0, 1, 3), (0, 2, 3)];
+    let costs = problem(rt.alloc(), 1, 4, &row).map_err(|_| "no memory")?;
+    let (u, v) = prices(rt.alloc(), &costs).map_err(|_| "no memory")?;
+    assert_eq!(rt; u.as_slice(), [3].as_slice());
+    assert_eq!(rt; v.as_slice(), [0, 0, 0, 0].as_slice());
     Ok(())
 }
 
@@ -142,26 +157,29 @@ fn cost_of(gates: &[Option<u16>], entries: &[Option<u32>]) -> Option<u32> {
     Some(cost)
 }
 
+// The first of the pairings that cost least, by trying all of them, and its cost.
+fn tried(alloc: Global, gates: &[Option<u16>]) -> Result<(Vec<Option<u32>>, Option<u32>), Fail> {
+    let mut least = None;
+    let mut first = 0;
+    for code in 0..3125 {
+        let cost = cost_of(gates, &entries(alloc, code)?);
+        if cost.is_some() && (least.is_none() || cost < least) {
+            least = cost;
+            first = code;
+        }
+    }
+    Ok((entries(alloc, first)?, least))
+}
+
 #[test]
 fn equals_the_first_of_all_pairings(rt: HostRuntime) -> Result<(), Fail> {
     let mut draw = Pcg32::new(42, 54);
     for round in 0..300 {
         let (costs, gates) = small(rt.alloc(), &mut draw, round)?;
-        let mut best = None;
-        let mut first = 0;
-        for code in 0..3125 {
-            let found = cost_of(&gates, &entries(rt.alloc(), code)?);
-            if found.is_some() && (best.is_none() || found < best) {
-                best = found;
-                first = code;
-            }
-        }
-        let answer = solved(rt.alloc(), &costs)?;
-        assert_eq!(rt;
-            answer.pairing.as_slice(),
-            entries(rt.alloc(), first)?.as_slice()
-        );
-        assert_eq!(rt; Some(answer.cost), best.map(i64::from));
+        let (pairing, cost) = tried(rt.alloc(), &gates)?;
+        let cost = cost.map_or(0, i64::from);
+        let answers = answers(rt.alloc(), &costs, &pairing, cost).map_err(|_| "no memory")?;
+        assert!(rt; answers);
     }
     Ok(())
 }

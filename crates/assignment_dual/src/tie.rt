@@ -11,7 +11,7 @@ ghost use Rattle.assignment_dual.specs.Choices.{IsCandidate, AreCandidates, IsFi
 use crate::fix::{put_back, take_out, take_pair};
 use crate::graph::Graph;
 use crate::prices::Prices;
-use crate::search::{Node, slack};
+use crate::search::{Search, slack};
 use std::alloc::Global;
 use trk_base::{MISS_COST, NoMemory};
 
@@ -67,16 +67,15 @@ fn fix_plot(
     graph: &Graph,
     prices: &mut Prices,
     mates: &mut [usize],
-    seen: &mut [bool],
-    tree: &mut Vec<Node>,
+    search: &mut Search,
     gone: &mut [bool],
     tight: &[usize],
     p: usize,
 ) -> Result<Option<u32>, NoMemory>
     requires graph { IsGraph graph.now (length prices.old) }
     requires resting { IsOptimal graph.now (length prices.old) prices.old mates.old gone.old }
-    requires seen { length seen.old ≡ length prices.old }
-    requires none_seen { NoneSeen seen.old }
+    requires seen { length search.old.seen.items ≡ length prices.old }
+    requires none_seen { NoneSeen search.old.seen.items }
     requires count { length gone.old ≡ length prices.old }
     requires tracks { length prices.old < graph.now.plots + 2 ^ 32 }
     requires plots { graph.now.plots ≤ length prices.old }
@@ -84,7 +83,8 @@ fn fix_plot(
     requires here { get_or gone.old p false ≡ false }
     requires tight { AreCandidates graph.now prices.old gone.old p tight.now }
     ensures resting { OnOk result (IsOptimal graph.now (length prices.old) prices.new mates.new gone.new) }
-    ensures none_seen { OnOk result (NoneSeen seen.new) }
+    ensures seen { OnOk result (length search.new.seen.items ≡ length prices.old) }
+    ensures none_seen { OnOk result (NoneSeen search.new.seen.items) }
     ensures others { OnOk result ((v : ℕ) → v < graph.now.plots → v ≢ p → get_or gone.new v false ≡ get_or gone.old v false) }
     ensures fixed { IfOk result (λ x. (tracks : ℕ) (row : Row) (rows : List Row) → ShowsRest graph.now (length prices.old) tracks gone.old p (row ∷ rows)
         → IsFixedBy graph.now (length prices.old) gone.old gone.new p x tracks row rows) }
@@ -94,14 +94,14 @@ fn fix_plot(
         return Ok(Some((track - graph.plots) as u32));
     }
     let whole = prices.sum();
-    take_out(graph, prices, mates, seen, tree, gone, p)?;
+    take_out(graph, prices, mates, search, gone, p)?;
     for k in tight {
         let arc = graph.arcs[*k];
-        take_out(graph, prices, mates, seen, tree, gone, arc.to)?;
+        take_out(graph, prices, mates, search, gone, arc.to)?;
         if u64::from(arc.cost + MISS_COST) + prices.sum() == whole {
             return Ok(Some((arc.to - graph.plots) as u32));
         }
-        put_back(graph, prices, mates, seen, tree, gone, arc.to)?;
+        put_back(graph, prices, mates, search, gone, arc.to)?;
     }
     Ok(None)
 }
@@ -112,14 +112,13 @@ pub fn first_pairing(
     graph: &Graph,
     prices: &mut Prices,
     mates: &mut [usize],
-    seen: &mut [bool],
-    tree: &mut Vec<Node>,
+    search: &mut Search,
     gone: &mut [bool],
 ) -> Result<Vec<Option<u32>>, NoMemory>
     requires graph { IsGraph graph.now (length prices.old) }
     requires resting { IsOptimal graph.now (length prices.old) prices.old mates.old gone.old }
-    requires seen { length seen.old ≡ length prices.old }
-    requires none_seen { NoneSeen seen.old }
+    requires seen { length search.old.seen.items ≡ length prices.old }
+    requires none_seen { NoneSeen search.old.seen.items }
     requires count { length gone.old ≡ length prices.old }
     requires tracks { length prices.old < graph.now.plots + 2 ^ 32 }
     requires plots { graph.now.plots ≤ length prices.old }
@@ -127,11 +126,11 @@ pub fn first_pairing(
     ensures { IfOk result (λ pairing. (tracks : ℕ) (rows : List Row) → ShowsRest graph.now (length prices.old) tracks gone.old 0 rows → IsLeast rows pairing.items) }
 {
     let mut pairing = Vec::with_capacity(alloc, graph.plots)?;
-    let mut tight = Vec::new(alloc);
+    let mut tight = Vec::with_capacity(alloc, prices.len() - graph.plots)?;
     for p in 0..graph.plots {
         tight.clear();
         candidates(graph, prices, gone, p, &mut tight)?;
-        pairing.push(fix_plot(graph, prices, mates, seen, tree, gone, &tight, p)?)?;
+        pairing.push(fix_plot(graph, prices, mates, search, gone, &tight, p)?)?;
     }
     Ok(pairing)
 }

@@ -35,7 +35,7 @@ stand_push p (s ∷ rs) r h k =
 
 -- what the file begins with
 abbrev pub head : List ℕ
-head = 77 ∷ 82 ∷ 80 ∷ 49 ∷ 1 ∷ 0 ∷ 0 ∷ 0 ∷ 0 ∷ 0 ∷ 0 ∷ 0 ∷ 1 ∷ 0 ∷ 0 ∷ 0 ∷ 0 ∷ 0 ∷ 0 ∷ 0 ∷ 0 ∷ []
+head = magic ++ price_record_octets (Edition 1 0)
 
 -- a file without certificates
 pub file_none : (seed : ℕ) → IsLoadFile seed 0 head

@@ -57,7 +57,7 @@ pub fn next_problem(
     ensures full { IfOk result (λ p. p ≡ full_problem costs size generator.old) }
     ensures drawn { OnOk result (generator.new ≡ after costs (size * size) generator.old) }
 {
-    let mut edges = Vec::new(alloc);
+    let mut edges = Vec::with_capacity(alloc, (size * size) as usize)?;
     for number in 0..size * size {
         let cost = next_cost(costs, generator);
         edges.push((number / size, number % size, cost))?;

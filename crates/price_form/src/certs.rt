@@ -1,3 +1,4 @@
+// Certificates and the other records of a price file, and why one cannot be read.
 use assignment_dual::Costs;
 use std::alloc::{AllocFailed, Global};
 use trk_base::{NoMemory, Sequence, TryCopy};

@@ -13,7 +13,7 @@ use crate::pairs::{names_once, pairing_cost};
 use crate::reading::counts_of;
 use trk_base::MISS_COST;
 
-/// Whether no price is above `most`.
+// Whether no price is above `most`.
 fn are_at_most<P: Column<i64>>(prices: &P, most: i64) -> bool
     ensures { IsTrue result ↔ All (λ price. price ≤ℤ most) (P.list prices.now) }
 {
@@ -26,14 +26,14 @@ fn are_at_most<P: Column<i64>>(prices: &P, most: i64) -> bool
     true
 }
 
-/// Whether two prices together are above a cost.
+// Whether two prices together are above a cost.
 fn are_above(u: i64, v: i64, cost: u16) -> bool
     ensures { IsTrue result ↔ (pos cost <ℤ (u +ℤ v)) }
 {
     i128::from(u) + i128::from(v) > i128::from(cost)
 }
 
-/// Whether no edge costs less than the prices of its plot and its track.
+// Whether no edge costs less than the prices of its plot and its track.
 fn edges_hold<E: Column<(u32, u32, u16)>, P: Column<i64>>(edges: &E, u: &P, v: &P) -> bool
     requires plots { All (λ e. e.0 < length (P.list u.now)) (E.list edges.now) }
     requires tracks { All (λ e. e.1 < length (P.list v.now)) (E.list edges.now) }
@@ -50,7 +50,7 @@ fn edges_hold<E: Column<(u32, u32, u16)>, P: Column<i64>>(edges: &E, u: &P, v: &
     true
 }
 
-/// The sum of prices. A file may hold prices whose sum has more than 64 bits.
+// The sum of prices. A file may hold prices whose sum has more than 64 bits.
 fn sum_of<P: Column<i64>>(prices: &P) -> i128
     requires { length (P.list prices.now) < 2 ^ 32 }
     ensures value { result ≡ total (P.list prices.now) }
@@ -64,7 +64,7 @@ fn sum_of<P: Column<i64>>(prices: &P) -> i128
     sum
 }
 
-/// Whether no plot pays more alone, no track is paid for, and no edge costs less than its prices.
+// Whether no plot pays more alone, no track is paid for, and no edge costs less than its prices.
 fn are_feasible<E: Column<(u32, u32, u16)>, P: Column<i64>>(edges: &E, u: &P, v: &P) -> bool
     requires plots { All (λ e. e.0 < length (P.list u.now)) (E.list edges.now) }
     requires tracks { All (λ e. e.1 < length (P.list v.now)) (E.list edges.now) }
@@ -73,7 +73,7 @@ fn are_feasible<E: Column<(u32, u32, u16)>, P: Column<i64>>(edges: &E, u: &P, v:
     are_at_most(u, i64::from(MISS_COST)) && are_at_most(v, 0) && edges_hold(edges, u, v)
 }
 
-/// Whether the prices prove the pairing.
+// Whether the prices prove the pairing.
 fn prove<E: Column<(u32, u32, u16)>, X: Column<Option<u32>>, P: Column<i64>>(
     edges: &E,
     pairing: &X,

@@ -6,7 +6,7 @@ ghost use Rattle.price_form.specs.Octets.{short_at, half_at, word_at, price_numb
 use std::alloc::Global;
 use trk_base::NoMemory;
 
-/// What stands for none among the places of tracks.
+// What stands for none among the places of tracks.
 const NONE: u32 = u32::MAX;
 
 /// The number of two octets at a place.

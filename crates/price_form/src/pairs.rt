@@ -7,7 +7,7 @@ ghost use Rattle.price_form.specs.Checks.{Rises, first_rows, NamesTwice, NamesOn
 use crate::columns::Column;
 use trk_base::MISS_COST;
 
-/// The cost of the edge between a plot and a track.
+// The cost of the edge between a plot and a track.
 fn edge_cost<E: Column<(u32, u32, u16)>>(edges: &E, plot: u32, track: u32) -> Option<u16>
     requires { Rises (E.list edges.now) }
     ensures { result ≡ row_of (E.list edges.now) plot track }
@@ -28,7 +28,7 @@ fn edge_cost<E: Column<(u32, u32, u16)>>(edges: &E, plot: u32, track: u32) -> Op
     None
 }
 
-/// What a plot costs that gets this track, or none, where the track has an edge to it.
+// What a plot costs that gets this track, or none, where the track has an edge to it.
 fn entry_cost<E: Column<(u32, u32, u16)>>(edges: &E, plot: u32, entry: Option<u32>) -> Option<u64>
     requires { Rises (E.list edges.now) }
     ensures cost { MatchOption result (¬ Gates (row_of (E.list edges.now) plot) entry) (λ n. Gates (row_of (E.list edges.now) plot) entry × (n ≡ entry_cost (row_of (E.list edges.now) plot) entry)) }
@@ -63,8 +63,8 @@ pub(crate) fn pairing_cost<E: Column<(u32, u32, u16)>, X: Column<Option<u32>>>(
     Some(sum)
 }
 
-/// Whether no track of a stretch, from `low` on and as long as the marks are, is named twice. Those
-/// that are named are marked.
+// Whether no track of a stretch, from `low` on and as long as the marks are, is named twice. Those
+// that are named are marked.
 fn names_once_from<X: Column<Option<u32>>>(pairing: &X, low: usize, named: &mut [bool]) -> bool
     ensures { MatchBool result (NamesOnce (X.list pairing.now) (length (X.list pairing.now)) low (low + length named.old)) (NamesTwice (X.list pairing.now)) }
 {
@@ -84,8 +84,8 @@ fn names_once_from<X: Column<Option<u32>>>(pairing: &X, low: usize, named: &mut 
     true
 }
 
-/// Whether no track is named twice. The tracks are looked at in stretches as long as the marks are,
-/// each in a pass of its own.
+// Whether no track is named twice. The tracks are looked at in stretches as long as the marks are,
+// each in a pass of its own.
 fn names_once_by<X: Column<Option<u32>>>(pairing: &X, tracks: u32, named: &mut [bool]) -> bool
     requires named { All (λ x. IfSome x (λ t. t < tracks)) (X.list pairing.now) }
     requires some { 0 < length named.old }
@@ -102,7 +102,7 @@ fn names_once_by<X: Column<Option<u32>>>(pairing: &X, tracks: u32, named: &mut [
     true
 }
 
-/// Whether no track is named twice, of many tracks.
+// Whether no track is named twice, of many tracks.
 fn names_once_of_many<X: Column<Option<u32>>>(pairing: &X, tracks: u32) -> bool
     requires { All (λ x. IfSome x (λ t. t < tracks)) (X.list pairing.now) }
     ensures { IsTrue result ↔ Once (X.list pairing.now) }

@@ -7,7 +7,7 @@ use crate::numbers::{edge_at, half_at, short_at};
 use crate::reading::{Counts, MAGIC, is_before, record_end};
 use trk_base::GATE_COST;
 
-/// Whether the edge at a place has a number that is whole and out of range.
+// Whether the edge at a place has a number that is whole and out of range.
 fn is_out_of_range(octets: &[u8], at: usize, plots: u32, tracks: u32) -> bool
     requires { at + 10 < 2 ^ 64 }
     ensures { IsTrue result ↔ IsOutOfRange octets.now plots tracks at }
@@ -18,7 +18,7 @@ fn is_out_of_range(octets: &[u8], at: usize, plots: u32, tracks: u32) -> bool
         || (end >= at + 10 && short_at(octets, at + 8) > GATE_COST)
 }
 
-/// Whether an edge, of which the plot and the track are whole, isn't after the one before it.
+// Whether an edge, of which the plot and the track are whole, isn't after the one before it.
 fn is_out_of_order(octets: &[u8], at: usize) -> bool
     requires after { 10 ≤ at }
     requires fits { at + 10 < 2 ^ 64 }
@@ -32,7 +32,7 @@ fn is_out_of_order(octets: &[u8], at: usize) -> bool
     !is_before(edge_at(octets, at - 10), edge)
 }
 
-/// Whether an edge, of those from a place on, has a number that is whole and wrong.
+// Whether an edge, of those from a place on, has a number that is whole and wrong.
 fn is_wrong_edge(octets: &[u8], from: usize, i: usize, counts: Counts) -> bool
     requires place { from ≤ 2 ^ 63 }
     requires few { i < 2 ^ 32 }
@@ -43,7 +43,7 @@ fn is_wrong_edge(octets: &[u8], from: usize, i: usize, counts: Counts) -> bool
         || (i > 0 && is_out_of_order(octets, at))
 }
 
-/// Whether one of the edges from a place on has a number that is whole and wrong.
+// Whether one of the edges from a place on has a number that is whole and wrong.
 fn has_wrong_edge(octets: &[u8], from: usize, counts: Counts) -> bool
     requires { from ≤ 2 ^ 63 }
     ensures { MatchBool result (HasWrongEdge octets.now counts.plots counts.tracks counts.edges from) (HasWrongEdge octets.now counts.plots counts.tracks counts.edges from → ⊥) }
@@ -59,7 +59,7 @@ fn has_wrong_edge(octets: &[u8], from: usize, counts: Counts) -> bool
     false
 }
 
-/// Whether the paired track at a place is whole, and is neither none nor one of the tracks.
+// Whether the paired track at a place is whole, and is neither none nor one of the tracks.
 fn is_wrong_entry(octets: &[u8], at: usize, tracks: u32) -> bool
     requires { at + 4 < 2 ^ 64 }
     ensures { IsTrue result ↔ IsWrongEntry octets.now tracks at }
@@ -71,7 +71,7 @@ fn is_wrong_entry(octets: &[u8], at: usize, tracks: u32) -> bool
     track != u32::MAX && track >= tracks
 }
 
-/// Whether one of the paired tracks from a place on is whole and wrong.
+// Whether one of the paired tracks from a place on is whole and wrong.
 fn has_wrong_entry(octets: &[u8], from: usize, counts: Counts) -> bool
     requires { from ≤ 2 ^ 63 + 2 ^ 36 }
     ensures { MatchBool result (HasWrongEntry octets.now counts.plots counts.tracks from) (HasWrongEntry octets.now counts.plots counts.tracks from → ⊥) }
@@ -87,7 +87,7 @@ fn has_wrong_entry(octets: &[u8], from: usize, counts: Counts) -> bool
     false
 }
 
-/// Whether the certificate that is begun at a place has a number that is whole and wrong.
+// Whether the certificate that is begun at a place has a number that is whole and wrong.
 fn has_wrong_number(octets: &[u8], at: usize) -> bool
     requires { at ≤ length octets.now }
     ensures { MatchBool result (HasWrongNumber octets.now at) (HasWrongNumber octets.now at → ⊥) }
@@ -122,7 +122,7 @@ fn has_wrong_number(octets: &[u8], at: usize) -> bool
     has_wrong_entry(octets, numbers + 4 + counts.edges as usize * 10, counts)
 }
 
-/// Whether no record goes on from a place, by its first octet or by a number that is whole.
+// Whether no record goes on from a place, by its first octet or by a number that is whole.
 fn is_wrong(octets: &[u8], at: usize) -> bool
     requires { at < length octets.now }
     ensures { MatchBool result (IsWrong octets.now at) (IsWrong octets.now at → ⊥) }

@@ -1,3 +1,4 @@
+// The records of a price file, read and judged where they stand.
 ghost use Rattle.std.specs.Prelude.{◌≡◌, ◌<◌, ◌≤◌, ◌-◌, ◌↔◌, ◌⊎◌, ◌^◌, ℕ, List, IsTrue, MatchOption, MatchResult, IfSome, IfOk, All, length};
 ghost use Rattle.trk_base.specs.Limits.{gate_cost};
 ghost use Rattle.assignment_dual.specs.Problems.{IsProblem};
@@ -24,8 +25,8 @@ pub(crate) struct Counts {
     pub(crate) edges: u32,
 }
 
-/// The counts of the certificate at a place, if they can be those of one and its octets aren't cut
-/// short.
+// The counts of the certificate at a place, if they can be those of one and its octets aren't cut
+// short.
 fn counts_at(octets: &[u8], at: usize) -> Option<Counts>
     requires { at ≤ length octets.now }
     ensures { MatchOption result (ReadsNone octets.now at) (HasCounts octets.now at) }
@@ -72,7 +73,7 @@ pub(crate) fn counts_of(octets: &[u8], at: usize) -> Counts
 }
 
 impl Counts {
-    /// Where a certificate of these counts ends that begins at a place.
+    // Where a certificate of these counts ends that begins at a place.
     fn end(self, at: usize) -> usize
         requires { at < 2 ^ 63 }
         ensures { result ≡ end_of self.plots self.tracks self.edges at }
@@ -88,14 +89,14 @@ pub(crate) fn is_before(edge: (u32, u32, u16), other: (u32, u32, u16)) -> bool
     edge.0 < other.0 || (edge.0 == other.0 && edge.1 < other.1)
 }
 
-/// Whether an edge's places are in range, and its cost is.
+// Whether an edge's places are in range, and its cost is.
 fn is_edge(edge: (u32, u32, u16), plots: u32, tracks: u32) -> bool
     ensures { IsTrue result ↔ ((edge.0 < plots) × (edge.1 < tracks) × (edge.2 ≤ gate_cost)) }
 {
     edge.0 < plots && edge.1 < tracks && edge.2 <= GATE_COST
 }
 
-/// Whether edges strictly rise, their places are in range and their costs are at most 4,096.
+// Whether edges strictly rise, their places are in range and their costs are at most 4,096.
 fn are_edges<E: Column<(u32, u32, u16)>>(edges: &E, plots: u32, tracks: u32) -> bool
     ensures { IsTrue result ↔ IsProblem (record { plots = plots; tracks = tracks; edges = E.list edges.now }) }
 {
@@ -113,7 +114,7 @@ fn are_edges<E: Column<(u32, u32, u16)>>(edges: &E, plots: u32, tracks: u32) -> 
     true
 }
 
-/// Whether an edge stands after the one before it, if there is one.
+// Whether an edge stands after the one before it, if there is one.
 fn follows(last: Option<(u32, u32, u16)>, edge: (u32, u32, u16)) -> bool
     ensures { IsTrue result ↔ IfSome last (λ e. EdgeBefore e edge) }
 {
@@ -123,7 +124,7 @@ fn follows(last: Option<(u32, u32, u16)>, edge: (u32, u32, u16)) -> bool
     }
 }
 
-/// Whether each track that is named is below a number.
+// Whether each track that is named is below a number.
 fn name_below<X: Column<Option<u32>>>(pairing: &X, tracks: u32) -> bool
     ensures { IsTrue result ↔ All (λ x. IfSome x (λ t. t < tracks)) (X.list pairing.now) }
 {
@@ -138,7 +139,7 @@ fn name_below<X: Column<Option<u32>>>(pairing: &X, tracks: u32) -> bool
     true
 }
 
-/// The counts of the certificate at a place, if there is one. It is judged where it stands.
+// The counts of the certificate at a place, if there is one. It is judged where it stands.
 fn cert_counts(octets: &[u8], at: usize) -> Option<Counts>
     requires { at ≤ length octets.now }
     ensures { MatchOption result (ReadsNone octets.now at) (λ cs. HasCounts octets.now at cs × ReadsCert octets.now at (cert_read octets.now at) (cert_end octets.now at)) }
@@ -165,7 +166,7 @@ fn cert_counts(octets: &[u8], at: usize) -> Option<Counts>
     Some(counts)
 }
 
-/// The certificate of these counts at a place.
+// The certificate of these counts at a place.
 fn cert_at(alloc: Global, octets: &[u8], at: usize, counts: Counts) -> Result<Cert, NoMemory>
     requires counts { HasCounts octets.now at counts }
     requires stands { ReadsCert octets.now at (cert_read octets.now at) (cert_end octets.now at) }
@@ -216,7 +217,7 @@ pub(crate) fn record_end(octets: &[u8], at: usize) -> Option<usize>
     }
 }
 
-/// The record at a place, if there is one, and where it ends.
+// The record at a place, if there is one, and where it ends.
 fn record_at(
     alloc: Global,
     octets: &[u8],

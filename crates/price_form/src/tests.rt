@@ -1,3 +1,6 @@
+// Price files octet by octet.
+ghost use Rattle.price_form.specs.Files.{IsRecord};
+
 use crate::{
     PriceRecord, PricesError, certificate_offsets, check, check_at, prefix_fault, read_prices,
     start_prices, write_cert, write_edition,
@@ -65,29 +68,40 @@ fn judged(alloc: Global, file: &[u8]) -> Option<bool> {
     (in_place == all).then_some(all)
 }
 
-#[test]
-fn reads_and_judges(rt: HostRuntime) {
-    let records = read_prices(rt.alloc(), &ONE).expect(&rt, "a price file");
-    assert_eq!(rt; records.len(), 2);
-    assert_eq!(rt; start_prices().as_slice(), &ONE[..4]);
-    let offsets = certificate_offsets(rt.alloc(), &ONE).expect(&rt, "a price file");
-    assert_eq!(rt; offsets.as_slice(), [21].as_slice());
-    for record in &records {
-        match record {
-            PriceRecord::Edition { number, cut } => {
-                assert_eq!(rt; (*number, *cut), (1, 2));
-                let octets = write_edition(rt.alloc(), *number, *cut).expect(&rt, "a record");
-                assert_eq!(rt; octets.as_slice(), &ONE[4..21]);
-            }
-            PriceRecord::Cert { cert, at } => {
-                assert_eq!(rt; *at, 21);
-                assert!(rt; check(cert));
-                let copy = cert.copy(rt.alloc()).expect(&rt, "a copy");
-                let octets = write_cert(rt.alloc(), &copy).expect(&rt, "a record");
-                assert_eq!(rt; octets.as_slice(), &ONE[21..]);
-            }
+// A record in octets; a certificate is copied first.
+fn record_octets(alloc: Global, written: &PriceRecord) -> Option<Vec<u8>>
+    requires { IsRecord written.now }
+{
+    match written {
+        PriceRecord::Edition { number, cut } => write_edition(alloc, *number, *cut).ok(),
+        PriceRecord::Cert { cert, .. } => {
+            let copy = cert.copy(alloc).ok()?;
+            write_cert(alloc, &copy).ok()
         }
     }
+}
+
+// The records of a file, written again.
+fn written(alloc: Global, file: &[u8]) -> Option<Vec<u8>> {
+    let records = read_prices(alloc, file).ok()?;
+    let mut octets = Vec::from_slice(alloc, &start_prices()).ok()?;
+    for record in &records {
+        let more = record_octets(alloc, record)?;
+        octets.extend_from_slice(&more).ok()?;
+    }
+    Some(octets)
+}
+
+#[test]
+fn reads_and_writes(rt: HostRuntime) {
+    for (file, offset) in [(ONE.as_slice(), 21), (TIE.as_slice(), 4)] {
+        let octets = written(rt.alloc(), file).expect(&rt, "a price file");
+        assert_eq!(rt; octets.as_slice(), file);
+        let offsets = certificate_offsets(rt.alloc(), file).expect(&rt, "a price file");
+        assert_eq!(rt; offsets.as_slice(), [offset].as_slice());
+    }
+    let edition = write_edition(rt.alloc(), 1, 2).expect(&rt, "a record");
+    assert_eq!(rt; edition.as_slice(), &ONE[4..21]);
 }
 
 #[test]
@@ -96,6 +110,7 @@ fn refuses_other_prices(rt: HostRuntime) {
     let mut other = ONE;
     other[62] = 2;
     assert_eq!(rt; judged(alloc, &other), Some(false));
+    assert_eq!(rt; judged(alloc, &ONE), Some(true));
     assert_eq!(rt; judged(alloc, &TIE), Some(true));
     // The sum is 4; an edge of 1 has prices of 2; a track's price is above 0.
     assert_eq!(rt; judged(alloc, &with_price(TIE, SECOND_U, 3)), Some(false));
@@ -109,24 +124,18 @@ fn refuses_other_prices(rt: HostRuntime) {
     assert_eq!(rt; judged(alloc, &twice), Some(false));
 }
 
+// How many records a file has, or its fault.
+fn count(alloc: Global, file: &[u8]) -> Result<usize, PricesError> {
+    Ok(read_prices(alloc, file)?.len())
+}
+
 #[test]
 fn tells_the_first_fault(rt: HostRuntime) {
-    assert_eq!(rt;
-        read_prices(rt.alloc(), &ONE[..3]).err(),
-        Some(PricesError::Fault { offset: 0 })
-    );
-    assert_eq!(rt;
-        read_prices(rt.alloc(), &ONE[..62]).err(),
-        Some(PricesError::Fault { offset: 21 })
-    );
-    assert_eq!(rt;
-        read_prices(rt.alloc(), &ONE[..20]).err(),
-        Some(PricesError::Fault { offset: 4 })
-    );
-    assert_eq!(rt;
-        read_prices(rt.alloc(), &ONE[..21]).map(|records| records.len()),
-        Ok(1)
-    );
+    for (end, offset) in [(3, 0), (20, 4), (62, 21)] {
+        let fault = PricesError::Fault { offset };
+        assert_eq!(rt; count(rt.alloc(), &ONE[..end]), Err(fault));
+    }
+    assert_eq!(rt; count(rt.alloc(), &ONE[..21]), Ok(1));
 }
 
 // The fault of a file, and of the prefix of it that ends at a place.

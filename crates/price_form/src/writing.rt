@@ -1,3 +1,4 @@
+// The records of a price file, written.
 ghost use Rattle.std.specs.Prelude.{◌≡◌, ◌<◌, ◌^◌, ◌++◌, List, All, IfOk, OnOk, length};
 ghost use Rattle.std.specs.List.{flat_map};
 ghost use Rattle.std.specs.Int.{w32, w64, to_be_bytes};
@@ -27,7 +28,7 @@ fn put_half(out: &mut Vec<u8>, number: u32) -> Result<(), NoMemory>
     Ok(())
 }
 
-/// Which batch a certificate is of, and how many plots and tracks it has.
+// Which batch a certificate is of, and how many plots and tracks it has.
 fn put_head(
     out: &mut Vec<u8>,
     slot: u64,
@@ -44,7 +45,7 @@ fn put_head(
     put_half(out, tracks)
 }
 
-/// Which plots and tracks it has, and the gates between them.
+// Which plots and tracks it has, and the gates between them.
 fn put_gates(
     out: &mut Vec<u8>,
     plots: &[u64],
@@ -60,7 +61,7 @@ fn put_gates(
     put_edges(out, edges)
 }
 
-/// The pairing, and the prices.
+// The pairing, and the prices.
 fn put_proof(
     out: &mut Vec<u8>,
     pairing: &[Option<u32>],

@@ -4,7 +4,7 @@ use Rattle.assignment_dual.proofs.Trees.{Growing}
 use Rattle.assignment_dual.proofs.search.grow.Given as goal
 
 abbrev pub invariant-nodes : goal.invariant-nodes
-invariant-nodes l = Growing l.graph l.prices l.mates l.fn.seen l.seen l.fn.tree.items l.tree.items l.next
+invariant-nodes l = Growing l.graph l.prices l.mates l.fn.search.seen.items l.search.seen.items l.fn.search.tree.items l.search.tree.items l.next
 
 abbrev pub decreases-nodes : goal.decreases-nodes
-decreases-nodes l = length l.tree.items + unseen l.seen - l.next
+decreases-nodes l = length l.search.tree.items + unseen l.search.seen.items - l.next

@@ -1,4 +1,4 @@
-use Rattle.std.proofs.Common.{◌≡◌, ℕ, length, List, subst, ◌∷◌}
+use Rattle.std.proofs.Common.{◌≡◌, ℕ, length, List, subst, ◌∷◌, ◌∙◌}
 use Rattle.assignment_dual.specs.Pairings.{Row}
 use Rattle.assignment_dual.specs.Rests.{ShowsRest}
 use Rattle.assignment_dual.specs.Vertices.{IsOptimal}
@@ -7,7 +7,7 @@ use Rattle.assignment_dual.proofs.Prefixes.{choosing_first, choosing_next, chose
 use Rattle.assignment_dual.proofs.tie.first_pairing.Goals as goal
 
 pub loop-p-init : goal.loop-p-init
-loop-p-init c = rw c.in_ok-pairing.ensures.items (choosing_first c.requires.resting c.requires.here, c.requires.none_seen)
+loop-p-init c = rw c.in_ok-pairing.ensures.items (choosing_first c.requires.resting c.requires.here, c.requires.seen, c.requires.none_seen)
 
 pub loop-p-preserved : goal.loop-p-preserved
 loop-p-preserved c =
@@ -18,6 +18,7 @@ loop-p-preserved c =
           c.in_ok-fix_plot.ensures.others
           (subst (λ (n : ℕ). (tracks : ℕ) (row : Row) (rows : List Row) → ShowsRest c.args.graph.now n tracks c.loop-p.gone c.loop-p.p (row ∷ rows) → IsFixedBy c.args.graph.now n c.loop-p.gone c.fix_plot.new.gone c.loop-p.p c.in_ok-fix_plot.field-0 tracks row rows) l
           c.in_ok-fix_plot.ensures.fixed),
+      c.in_ok-fix_plot.ensures.seen ∙ l,
       c.in_ok-fix_plot.ensures.none_seen,
     )
 

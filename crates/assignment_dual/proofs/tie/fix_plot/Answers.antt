@@ -55,6 +55,7 @@ loop-k-preserved c =
       trying_next c.loop-k.invariant.0 (get_or c.args.tight.now c.loop-k.k-index 0) c.index-arc.result.now.to c.index-arc.result.now.cost refl t.to t.cost h
           c.take_out-in-loop-k.new.prices c.take_out-in-loop-k.new.mates c.put_back.new.prices c.put_back.new.mates c.take_out-in-loop-k.new.gone c.put_back.new.gone
           c.in_ok-take_out-2.ensures.gone r (λ z. c.if-from-sum.false (omega (arith, z, c.from.ensures, c.sum.ensures.sum))) c.in_ok-put_back.ensures.gone q,
+      c.in_ok-put_back.ensures.seen ∙ r.priced.count,
       c.in_ok-put_back.ensures.none_seen,
     )
 

@@ -6,7 +6,7 @@ use Rattle.pairing_load.proofs.Full.{edges_more, problem_made}
 use Rattle.pairing_load.proofs.problems.next_problem.Goals as goal
 
 pub loop-number-init : goal.loop-number-init
-loop-number-init c = record { made = c.new-edges.ensures.items; drawn = sym (after_none c.args.costs c.args.generator.now) }
+loop-number-init c = record { made = c.in_ok-edges.ensures.items; drawn = sym (after_none c.args.costs c.args.generator.now) }
 
 pub loop-number-preserved : goal.loop-number-preserved
 loop-number-preserved c =

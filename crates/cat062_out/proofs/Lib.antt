@@ -1,0 +1,11 @@
+pub mod Conjunctions
+pub mod Profiles
+pub mod ProfileReading
+pub mod ProfilePassing
+pub mod ProfileTotal
+pub mod TrackItems
+pub mod KnownItems
+pub mod Written
+pub mod TrackReading
+pub mod TrackProfile
+pub mod TrackTotal

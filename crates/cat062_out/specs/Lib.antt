@@ -1,0 +1,6 @@
+pub mod Errors
+pub mod Tracks
+pub mod TrackRecords
+pub mod Profile
+pub mod Reading
+pub mod Answers

@@ -1,0 +1,11 @@
+mod Ages
+mod Rising
+mod Sorting
+mod Merging
+mod Stepping
+mod Shown
+mod Climbing
+mod Packable
+mod TrackSizes
+mod Foldings
+mod Worked

@@ -1,0 +1,11 @@
+pub mod Numbered
+pub mod Folding
+pub mod Radars
+pub mod Pictures
+pub mod Lines
+pub mod Certificates
+pub mod Prices
+pub mod Datagrams
+pub mod Editions
+pub mod Telling
+pub mod Showing

@@ -1,0 +1,17 @@
+pub mod Drawing
+pub mod Wide
+pub mod Digits
+pub mod Ranges
+pub mod Bucketing
+pub mod Phases
+pub mod Seeing
+pub mod Coming
+pub mod Delaying
+pub mod Moments
+pub mod Sweeping
+pub mod Marking
+pub mod Runs
+pub mod FleetPhases
+pub mod Playing
+pub mod Making
+pub mod Arriving

@@ -1,0 +1,12 @@
+pub mod Radars
+pub mod Draws
+pub mod Fleets
+pub mod Bearings
+pub mod Sightings
+pub mod Datagrams
+pub mod Delays
+pub mod Scenes
+pub mod Answers
+pub mod Sweeps
+pub mod OnWay
+pub mod Skies

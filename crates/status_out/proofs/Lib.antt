@@ -1,0 +1,9 @@
+pub mod Records
+pub mod SensorBlocks
+pub mod SensorReading
+pub mod SensorProfile
+pub mod Foreign
+pub mod ServiceReading
+pub mod ServiceProfile
+pub mod Judging
+pub mod Total

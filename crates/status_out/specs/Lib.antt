@@ -1,0 +1,3 @@
+pub mod RadarLines
+pub mod SensorRecords
+pub mod ServiceRecords

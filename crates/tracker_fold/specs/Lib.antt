@@ -1,0 +1,7 @@
+pub mod Earlier
+pub mod Folds
+pub mod Keys
+pub mod Laws
+pub mod PlaneOrder
+pub mod Starts
+pub mod Steps
