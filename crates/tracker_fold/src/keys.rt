@@ -1,4 +1,8 @@
 // What tells entries apart.
+ghost use Rattle.std.specs.Prelude.{◌≡◌};
+ghost use Rattle.tracker_fold.specs.Keys.{key_in};
+
+use admission_log::Entry;
 use trk_base::Key;
 
 /// What tells the entries of a log apart.
@@ -13,4 +17,19 @@ pub enum EntryKey {
     },
     /// An admitted plot, by its key.
     Plot(Key),
+}
+
+impl EntryKey {
+    /// That of an entry.
+    pub fn of(entry: &Entry) -> EntryKey
+        ensures { result ≡ key_in entry.now }
+    {
+        match entry {
+            Entry::Bias { slot, place, .. } => EntryKey::Change {
+                slot: *slot,
+                place: *place,
+            },
+            Entry::Plot { key, .. } => EntryKey::Plot(*key),
+        }
+    }
 }

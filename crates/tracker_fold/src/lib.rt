@@ -8,6 +8,8 @@ mod keys;
 mod laws;
 mod state;
 mod step;
+#[cfg(test)]
+mod tests;
 
 pub use keys::EntryKey;
 pub use laws::{folded_log, folded_radars};
