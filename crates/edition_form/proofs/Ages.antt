@@ -1,5 +1,5 @@
 -- Who was detected has an age.
-use Rattle.std.proofs.Common.{◌≡◌, refl, ℕ, Bool, true, Option, Some, None}
+use Rattle.std.proofs.Common.{◌≡◌, refl, ℕ, true, Option, Some, None}
 use Rattle.std.specs.Prelude.{◌||◌, is_some}
 use Rattle.std.specs.Option.{option_map}
 

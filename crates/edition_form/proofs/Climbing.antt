@@ -1,9 +1,7 @@
 -- Lines whose numbers differ rise in their order.
-use Rattle.std.proofs.Common.{◌≡◌, ◌≢◌, ◌∙◌, ap, sym, subst, refl, ℕ, ◌<◌, ◌≤◌, Bool, true, false, cond, List, [], ◌∷◌, map, arith, eqb, nat_lt, nat_eq, Option, Some, None}
-use Rattle.std.specs.Prelude.{filter, ◌==◌, unwrap_or}
-use Rattle.std.specs.Ordering.{nat_cmp, ordering_then}
-use Rattle.std.specs.declared.cmp.Ordering.{Ordering}
-use Rattle.std.specs.declared.cmp.Ordering.TheVariants.{Less, Equal, Greater}
+use Rattle.std.proofs.Common.{◌≡◌, ◌≢◌, ap, sym, subst, refl, ℕ, ◌<◌, ◌≤◌, false, List, [], ◌∷◌, arith, eqb, nat_lt, Option, Some, None}
+use Rattle.std.specs.Prelude.{◌==◌, unwrap_or}
+use Rattle.std.specs.declared.cmp.Ordering.TheVariants.{Less}
 use Rattle.std.specs.List.{AllByRecursion, IsDistinct}
 use Rattle.std.specs.List.Sorted.{IsStrictlySortedBy}
 use Rattle.std.proofs.lemmas.Bool.{cond_both, lt-ltb, ltb-true, ltb-false, eqb-false}
@@ -15,8 +13,8 @@ use Rattle.track_life.specs.Tracks.{TrackState}
 use Rattle.track_life.specs.Numbers.{held}
 use Rattle.edition_form.specs.declared.lines.ShownLine.{ShownLine}
 use Rattle.edition_form.specs.Numbered.{put, in_rising_number}
-use Rattle.edition_form.specs.Pictures.{HaveOwnNumbers, number_of, shown_tracks}
-use Rattle.edition_form.specs.Lines.{RiseByNumber, line_of, lines_of, shown_cmp, shown_line}
+use Rattle.edition_form.specs.Pictures.{HaveOwnNumbers, number_of}
+use Rattle.edition_form.specs.Lines.{RiseByNumber, line_of, lines_of, shown_cmp}
 use Rattle.edition_form.specs.Showing.{shown_number}
 use Rattle.edition_form.specs.Telling.{Climb, DontFall}
 use Rattle.edition_form.proofs.Rising.{all_put, all_rising}
@@ -135,3 +133,18 @@ pub rises : (lines : List ShownLine) → Climb lines → RiseByNumber lines
 unfolding IsStrictlySortedBy
 rises [] h = tt
 rises (s ∷ ss) h = (all_weaker (λ t. s.line.number < t.line.number) (λ t. shown_cmp s t ≡ Less) (λ t k. lower_first s t k) ss h.0, rises ss h.1)
+
+-- ---- one of them, and none
+
+pub one_number : (t : TrackState) → HaveOwnNumbers (t ∷ [])
+unfolding IsDistinct
+one_number t =
+    let at : (o : Option ℕ) → t.number ≡ o → HaveOwnNumbers (t ∷ []) = λ o. elim o as (λ o. t.number ≡ o → HaveOwnNumbers (t ∷ [])) [
+      | Some n ↦ λ e. let k : held (t ∷ []) ≡ n ∷ [] = rw e refl in subst (IsDistinct ◌==◌) (sym k) (tt, tt)
+      | None ↦ λ e. let k : held (t ∷ []) ≡ [] = rw e refl in subst (IsDistinct ◌==◌) (sym k) tt
+    ] in
+    at t.number refl
+
+pub no_lines : RiseByNumber []
+unfolding IsStrictlySortedBy
+no_lines = tt

@@ -5,4 +5,7 @@ mod Merging
 mod Stepping
 mod Shown
 mod Climbing
+mod Packable
+mod TrackSizes
+mod Foldings
 mod Worked

@@ -1,23 +1,22 @@
 -- Old lines and lines shown now, told one after the other by their numbers.
-use Rattle.std.proofs.Common.{◌≡◌, ◌∙◌, ap, subst, sym, refl, ℕ, suc, cond, ◌<◌, ◌≤◌, List, [], ◌∷◌, ◌++◌, Bool, true, false, map, length, arith, append_assoc, eqb, nat_lt, nat_le, Option, Some, None}
-use Rattle.std.specs.Prelude.{filter, not, ◌&&◌, ◌||◌, ◌==◌}
+use Rattle.std.proofs.Common.{◌≡◌, ◌∙◌, ap, subst, sym, refl, ℕ, suc, cond, ◌<◌, ◌≤◌, List, [], ◌∷◌, ◌++◌, Bool, true, false, map, arith, append_assoc, eqb, Some, None}
+use Rattle.std.specs.Prelude.{not, ◌||◌}
 use Rattle.std.specs.Option.{option_to_list}
 use Rattle.std.specs.Ordering.{is_eq, ordering_reverse}
 use Rattle.std.specs.declared.cmp.Ordering.{Ordering}
 use Rattle.std.specs.declared.cmp.Ordering.TheVariants.{Less, Equal, Greater}
-use Rattle.std.specs.List.{AllByRecursion, list_any}
-use Rattle.std.proofs.lemmas.List.{map-append}
+use Rattle.std.specs.List.{AllByRecursion}
 use Rattle.std.proofs.lemmas.List.Folds.{list_any-append}
-use Rattle.std.proofs.lemmas.Bool.{cond_both, eqb-true, eq-eqb, ne_eqb, leb-true, leb-false}
+use Rattle.std.proofs.lemmas.Bool.{eqb-true, eq-eqb, ne_eqb, leb-true, leb-false}
 use Rattle.std.specs.Cmp.{both_ways}
-use Rattle.late_window.proofs.Lists.{all_weaker, all_append, all_left, all_right, filter_keeps}
+use Rattle.late_window.proofs.Lists.{all_weaker, all_append, filter_keeps}
 use Rattle.trk_base.specs.Keys.{key_cmp}
 use Rattle.trk_base.specs.KeyOrder.{key_cmp_total}
 use Rattle.cat062_out.specs.Tracks.{TrackLine}
 use Rattle.edition_form.specs.declared.lines.ShownLine.{ShownLine}
 use Rattle.edition_form.specs.Numbered.{in_rising_number}
-use Rattle.edition_form.specs.Lines.{are_of_one_track, gone, is_among, last_line, line_now}
-use Rattle.edition_form.specs.Telling.{DontFall, Climb, IsKnown, AreTold, lines_left, old_first, is_first, ended_line}
+use Rattle.edition_form.specs.Lines.{are_of_one_track, ended_tracks, is_among, ended_line, line_now}
+use Rattle.edition_form.specs.Telling.{DontFall, Climb, IsKnown, AreUnderway, lines_left, old_first, is_first, told_old}
 use Rattle.edition_form.proofs.Rising.{first_lowest, middle_lowest}
 
 -- ---- lists that don't fall, and that climb
@@ -92,8 +91,8 @@ known_more : (o1 : List ShownLine) (o : ShownLine) (n2 : List ShownLine) (known 
 known_more o1 o [] known h = rw h refl
 known_more o1 o (n ∷ n2) known h = rw (h, among_both n o1 (o ∷ []), or_false (are_of_one_track n o), same_back n o) refl
 
-pub past_old_told : (o1 : List ShownLine) (o : ShownLine) (o2 n1 n2 : List ShownLine) (known : Bool) → AreTold o1 (o ∷ o2) n1 n2 known → old_first (o ∷ o2) n2 ≡ true
-    → AreTold (o1 ++ o ∷ []) o2 n1 n2 (known || is_first o n2)
+pub past_old_told : (o1 : List ShownLine) (o : ShownLine) (o2 n1 n2 : List ShownLine) (known : Bool) → AreUnderway o1 (o ∷ o2) n1 n2 known → old_first (o ∷ o2) n2 ≡ true
+    → AreUnderway (o1 ++ o ∷ []) o2 n1 n2 (known || is_first o n2)
 past_old_told o1 o o2 n1 n2 known t first = record {
   old = subst DontFall (sym (append_assoc o1 (o ∷ []) o2)) t.old;
   now = t.now;
@@ -107,33 +106,33 @@ past_old_told o1 o o2 n1 n2 known t first = record {
 number_of_line : TrackLine → ℕ
 number_of_line l = l.number
 
-last_lines_above : (k : ℕ) (ss : List ShownLine) → AllByRecursion (λ s. k ≤ s.line.number) ss → AllByRecursion (λ l. k ≤ l.number) (map last_line ss)
-last_lines_above k [] h = tt
-last_lines_above k (s ∷ ss) h = (h.0, last_lines_above k ss h.1)
+ended_lines_above : (k : ℕ) (ss : List ShownLine) → AllByRecursion (λ s. k ≤ s.line.number) ss → AllByRecursion (λ l. k ≤ l.number) (map ended_line ss)
+ended_lines_above k [] h = tt
+ended_lines_above k (s ∷ ss) h = (h.0, ended_lines_above k ss h.1)
 
 lines_now_above : (old : List ShownLine) (k : ℕ) (ss : List ShownLine) → AllByRecursion (λ s. k ≤ s.line.number) ss → AllByRecursion (λ l. k ≤ l.number) (map (line_now old) ss)
 lines_now_above old k [] h = tt
 lines_now_above old k (s ∷ ss) h = (h.0, lines_now_above old k ss h.1)
 
-gone_above : (now : List ShownLine) (k : ℕ) (ss : List ShownLine) → AllByRecursion (λ s. k ≤ s.line.number) ss → AllByRecursion (λ l. k ≤ l.number) (map last_line (gone ss now))
-gone_above now k ss h = last_lines_above k (gone ss now) (filter_keeps (λ s. k ≤ s.line.number) (λ s. not (is_among now s)) ss h)
+ended_above : (now : List ShownLine) (k : ℕ) (ss : List ShownLine) → AllByRecursion (λ s. k ≤ s.line.number) ss → AllByRecursion (λ l. k ≤ l.number) (map ended_line (ended_tracks ss now))
+ended_above now k ss h = ended_lines_above k (ended_tracks ss now) (filter_keeps (λ s. k ≤ s.line.number) (λ s. not (is_among now s)) ss h)
 
-pub past_old_left : (o1 : List ShownLine) (o : ShownLine) (o2 n1 n2 : List ShownLine) (known : Bool) → AreTold o1 (o ∷ o2) n1 n2 known → old_first (o ∷ o2) n2 ≡ true
-    → lines_left (o1 ++ o ∷ o2) (n1 ++ n2) (o ∷ o2) n2 ≡ option_to_list (ended_line o n2) ++ lines_left (o1 ++ o ∷ o2) (n1 ++ n2) o2 n2
+pub past_old_left : (o1 : List ShownLine) (o : ShownLine) (o2 n1 n2 : List ShownLine) (known : Bool) → AreUnderway o1 (o ∷ o2) n1 n2 known → old_first (o ∷ o2) n2 ≡ true
+    → lines_left (o1 ++ o ∷ o2) (n1 ++ n2) (o ∷ o2) n2 ≡ option_to_list (told_old o n2) ++ lines_left (o1 ++ o ∷ o2) (n1 ++ n2) o2 n2
 past_old_left o1 o o2 n1 n2 known t first =
     let old = o1 ++ o ∷ o2 in
     let now = n1 ++ n2 in
     let before : AllByRecursion (λ n. n.line.number < o.line.number) n1 = all_weaker (λ n. AllByRecursion (λ x. n.line.number < x.line.number) (o ∷ o2)) (λ n. n.line.number < o.line.number) (λ n h. h.0) n1 t.apart in
     let climb = climb_rest n1 n2 t.now in
     let among : is_among now o ≡ is_first o n2 = among_now n1 o n2 climb before (first_of_more o o2 n2 first) in
-    let rest = map last_line (gone o2 now) ++ map (line_now old) n2 in
+    let rest = map ended_line (ended_tracks o2 now) ++ map (line_now old) n2 in
     let above : AllByRecursion (λ l. o.line.number ≤ l.number) rest =
-    all_append (λ l. o.line.number ≤ l.number) (map last_line (gone o2 now)) (map (line_now old) n2)
-    (gone_above now o.line.number o2 (dont_fall_rest o1 (o ∷ o2) t.old).0)
+    all_append (λ l. o.line.number ≤ l.number) (map ended_line (ended_tracks o2 now)) (map (line_now old) n2)
+    (ended_above now o.line.number o2 (dont_fall_rest o1 (o ∷ o2) t.old).0)
     (lines_now_above old o.line.number n2 (not_above o n2 climb (first_of_more o o2 n2 first))) in
-    elim (is_first o n2) as (λ b. is_among now o ≡ b → in_rising_number (λ l. l.number) (map last_line (gone (o ∷ o2) now) ++ map (line_now old) n2) ≡ option_to_list (cond b None (Some (last_line o))) ++ in_rising_number (λ l. l.number) rest) [
+    elim (is_first o n2) as (λ b. is_among now o ≡ b → in_rising_number (λ l. l.number) (map ended_line (ended_tracks (o ∷ o2) now) ++ map (line_now old) n2) ≡ option_to_list (cond b None (Some (ended_line o))) ++ in_rising_number (λ l. l.number) rest) [
       | true ↦ λ e. rw e refl
-      | false ↦ λ e. rw e (first_lowest (λ l. l.number) (last_line o) rest above)
+      | false ↦ λ e. rw e (first_lowest (λ l. l.number) (ended_line o) rest above)
     ] among
 
 -- ---- past a line that is shown now
@@ -151,8 +150,8 @@ known_next o1 n (m ∷ n2) h k = sym (none_of m o1 (all_weaker (λ o. o.line.num
 heads : (o1 : List ShownLine) (n : ShownLine) (n2 : List ShownLine) → AllByRecursion (λ o. AllByRecursion (λ m. o.line.number ≤ m.line.number) (n ∷ n2)) o1 → AllByRecursion (λ o. o.line.number ≤ n.line.number) o1
 heads o1 n n2 h = all_weaker (λ o. AllByRecursion (λ m. o.line.number ≤ m.line.number) (n ∷ n2)) (λ o. o.line.number ≤ n.line.number) (λ o k. k.0) o1 h
 
-pub past_now_told : (o1 o2 n1 : List ShownLine) (n : ShownLine) (n2 : List ShownLine) (known : Bool) → AreTold o1 o2 n1 (n ∷ n2) known → old_first o2 (n ∷ n2) ≡ false
-    → AreTold o1 o2 (n1 ++ n ∷ []) n2 false
+pub past_now_told : (o1 o2 n1 : List ShownLine) (n : ShownLine) (n2 : List ShownLine) (known : Bool) → AreUnderway o1 o2 n1 (n ∷ n2) known → old_first o2 (n ∷ n2) ≡ false
+    → AreUnderway o1 o2 (n1 ++ n ∷ []) n2 false
 past_now_told o1 o2 n1 n n2 known t first = record {
   old = t.old;
   now = subst Climb (sym (append_assoc n1 (n ∷ []) n2)) t.now;
@@ -161,7 +160,7 @@ past_now_told o1 o2 n1 n n2 known t first = record {
   is_known = known_next o1 n n2 (heads o1 n n2 t.passed) (climb_rest n1 (n ∷ n2) t.now).0;
 }
 
-pub past_now_left : (o1 o2 n1 : List ShownLine) (n : ShownLine) (n2 : List ShownLine) (known : Bool) → AreTold o1 o2 n1 (n ∷ n2) known → old_first o2 (n ∷ n2) ≡ false
+pub past_now_left : (o1 o2 n1 : List ShownLine) (n : ShownLine) (n2 : List ShownLine) (known : Bool) → AreUnderway o1 o2 n1 (n ∷ n2) known → old_first o2 (n ∷ n2) ≡ false
     → lines_left (o1 ++ o2) (n1 ++ n ∷ n2) o2 (n ∷ n2) ≡ (record n.line { first = not known; ended = false }) ∷ lines_left (o1 ++ o2) (n1 ++ n ∷ n2) o2 n2
 past_now_left o1 o2 n1 n n2 known t first =
     let old = o1 ++ o2 in
@@ -169,10 +168,10 @@ past_now_left o1 o2 n1 n n2 known t first =
     let above = above_now n o2 n2 (dont_fall_rest o1 o2 t.old) first in
     let later : is_among o2 n ≡ false = none_of n o2 (all_weaker (λ o. n.line.number < o.line.number) (λ o. are_of_one_track n o ≡ false) (λ o h. lower_number n o h) o2 above) in
     let among : is_among old n ≡ known = among_both n o1 o2 ∙ (rw later (or_false (is_among o1 n)) ∙ sym t.is_known) in
-    let gone_lines = map last_line (gone o2 now) in
+    let ended_lines = map ended_line (ended_tracks o2 now) in
     let rest = map (line_now old) n2 in
     let line : line_now old n ≡ record n.line { first = not known; ended = false } = ap (λ b. record n.line { first = not b; ended = false }) among in
-    middle_lowest (λ l. l.number) gone_lines (line_now old n) rest
-    (all_weaker (λ l. suc n.line.number ≤ l.number) (λ l. n.line.number < l.number) (λ l h. h) gone_lines (gone_above now (suc n.line.number) o2 above))
+    middle_lowest (λ l. l.number) ended_lines (line_now old n) rest
+    (all_weaker (λ l. suc n.line.number ≤ l.number) (λ l. n.line.number < l.number) (λ l h. h) ended_lines (ended_above now (suc n.line.number) o2 above))
     (lines_now_above old n.line.number n2 (all_weaker (λ m. n.line.number < m.line.number) (λ m. n.line.number ≤ m.line.number) (λ m h. omega (arith, h)) n2 (climb_rest n1 (n ∷ n2) t.now).0))
-    ∙ ap (λ l. l ∷ in_rising_number (λ l. l.number) (gone_lines ++ rest)) line
+    ∙ ap (λ l. l ∷ in_rising_number (λ l. l.number) (ended_lines ++ rest)) line

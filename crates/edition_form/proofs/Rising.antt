@@ -1,8 +1,7 @@
 -- Lists in rising number.
-use Rattle.std.proofs.Common.{◌≡◌, ◌∙◌, ap, refl, ℕ, ◌<◌, ◌≤◌, List, [], ◌∷◌, ◌++◌, true, false, arith, nat_lt}
+use Rattle.std.proofs.Common.{◌≡◌, ◌∙◌, ap, refl, ℕ, ◌<◌, ◌≤◌, List, [], ◌∷◌, ◌++◌, nat_lt}
 use Rattle.std.specs.List.{AllByRecursion}
 use Rattle.std.proofs.lemmas.Bool.{cond_both, lt-ltb, le-ltb}
-use Rattle.late_window.proofs.Lists.{all_weaker}
 use Rattle.edition_form.specs.Numbered.{put, in_rising_number}
 
 module _ {X : Type 0} (number : X → ℕ) where

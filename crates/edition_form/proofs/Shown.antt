@@ -1,10 +1,9 @@
 -- Which tracks are shown, one after the other.
-use Rattle.std.proofs.Common.{◌≡◌, ◌∙◌, ap, sym, subst, refl, ℕ, zero, suc, ◌<◌, ◌≤◌, ◌+◌, ◌*◌, ◌/◌, Bool, true, false, cond, List, [], ◌∷◌, ◌++◌, map, length, get_or, drop, arith, append_assoc, append-nil, Option, Some, None, nat_le}
+use Rattle.std.proofs.Common.{◌≡◌, ◌∙◌, ap, sym, refl, ℕ, ◌<◌, ◌≤◌, ◌+◌, ◌*◌, Bool, true, false, cond, List, [], ◌∷◌, ◌++◌, map, length, get_or, drop, arith, append_assoc, append-nil, Option, Some, None}
 use Rattle.std.specs.Prelude.{filter, ◌&&◌, is_some, unwrap_or, if◌then◌else◌}
-use Rattle.std.specs.List.{AllByRecursion}
 use Rattle.std.specs.List.Sorted.{IsNonDecreasingBy, IsStableByKey}
 use Rattle.std.specs.Ordering.{nat_cmp}
-use Rattle.std.proofs.lemmas.Bool.{leb-true, and_parts}
+use Rattle.std.proofs.lemmas.Bool.{leb-true}
 use Rattle.std.proofs.lemmas.Int.{ints}
 use Rattle.std.proofs.lemmas.List.{drop_more, drop_all}
 use Rattle.trk_base.specs.Numbers.{slot_of}
@@ -104,11 +103,6 @@ lines_sorted life time table xs ys e up stable =
     ∙ sym (map_rising number_of (λ s. s.line.number) (shown_line time) (keeps_number time) (shown_among life (slot_of time) table))
 
 -- ---- the time since a track's last plot
-
-pub all_at : {X : Type 0} (P : X → Type 0) (xs : List X) (i : ℕ) (d : X) → AllByRecursion P xs → i < length xs → P (get_or xs i d)
-all_at P [] i d h inside = absurd (omega (arith, inside))
-all_at P (x ∷ xs) zero d h inside = h.0
-all_at P (x ∷ xs) (suc i) d h inside = all_at P xs i d h.1 (omega (arith, inside))
 
 keep_limit : (life : LifeSettings) (confirmed : Bool) → keep life confirmed ≤ 60
 keep_limit life true = life.keep_confirmed_range.1

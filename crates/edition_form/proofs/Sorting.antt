@@ -1,13 +1,13 @@
 -- A list has one order in rising number in which those of one number stay as they were.
-use Rattle.std.proofs.Common.{◌≡◌, ◌∙◌, ap, sym, subst, refl, ℕ, zero, suc, ◌+◌, ◌<◌, ◌≤◌, Bool, true, false, cond, List, [], ◌∷◌, length, get_or, map, arith, eqb, nat_lt, inl, inr}
+use Rattle.std.proofs.Common.{◌≡◌, ◌∙◌, ap, sym, refl, ℕ, zero, suc, ◌<◌, ◌≤◌, Bool, true, false, cond, List, [], ◌∷◌, length, get_or, map, arith, eqb, nat_lt, inl, inr}
 use Rattle.std.specs.Prelude.{filter, not, ◌&&◌}
 use Rattle.std.specs.Ordering.{is_lt, nat_cmp}
 use Rattle.std.specs.declared.cmp.Ordering.TheVariants.{Less, Equal, Greater}
 use Rattle.std.specs.List.{AllByRecursion}
-use Rattle.std.specs.List.Sorted.{IsNonDecreasingBy, IsSortedByKey, IsStableByKey, IsPermutation, ties}
+use Rattle.std.specs.List.Sorted.{IsNonDecreasingBy, IsStableByKey, IsPermutation, ties}
 use Rattle.std.proofs.lemmas.List.Elements.{recursion_from_All}
 use Rattle.std.proofs.lemmas.List.Sorted.{IsPermutation-refl, IsPermutation-cons, IsPermutation-trans, IsPermutation-sym, IsPermutation-middle}
-use Rattle.std.proofs.lemmas.Bool.{cond_both, cases_order, lt-ltb, le-ltb, ltb-true, ltb-false, eq-eqb, ne_eqb, eqb-true}
+use Rattle.std.proofs.lemmas.Bool.{cond_both, cases_order, lt-ltb, le-ltb, ltb-true, ltb-false, eq-eqb, ne_eqb}
 use Rattle.late_window.proofs.Lists.{all_weaker, filter_same, filter_none}
 use Rattle.edition_form.specs.Numbered.{put, in_rising_number}
 use Rattle.edition_form.proofs.Rising.{all_put}
@@ -26,6 +26,11 @@ neither m n =
       | inr (inl lt) ↦ rw (lt-ltb m n lt, ne_eqb m n (λ e. omega (arith, lt, e))) refl
       | inr (inr gt) ↦ rw (lt-ltb n m gt, le-ltb m n (omega (arith, gt)), ne_eqb m n (λ e. omega (arith, gt, e))) refl
     ])
+
+pub all_at : {X : Type 0} (P : X → Type 0) (xs : List X) (i : ℕ) (d : X) → AllByRecursion P xs → i < length xs → P (get_or xs i d)
+all_at P [] i d h inside = absurd (omega (arith, inside))
+all_at P (x ∷ xs) zero d h inside = h.0
+all_at P (x ∷ xs) (suc i) d h inside = all_at P xs i d h.1 (omega (arith, inside))
 
 module _ {X : Type 0} (number : X → ℕ) where
   abbrev pub Rises : List X → Type 0
@@ -142,6 +147,20 @@ module _ {X : Type 0} (number : X → ℕ) where
   -- what a stable sort by the number makes of a list
   pub sorted_is : (xs ys : List X) → IsNonDecreasingBy number ys → IsStableByKey number nat_cmp xs ys → ys ≡ in_rising_number number xs
   sorted_is xs ys up stable = one_order ys (in_rising_number number xs) (from_sorted ys up) (all_rise xs) (λ x. from_stable xs ys stable x ∙ sym (all_stay (number x) xs))
+
+  -- a list that rises doesn't fall between any two indices
+  up_from : (xs : List X) → Rises xs → (i j : ℕ) (d : X) → i ≤ j → j < length xs → number (get_or xs i d) ≤ number (get_or xs j d)
+  up_from [] h i j d le within = absurd (omega (arith, within))
+  up_from (x ∷ xs) h zero zero d le within = omega arith
+  up_from (x ∷ xs) h zero (suc j) d le within = all_at (λ y. number x ≤ number y) xs j d h.0 (omega (arith, within))
+  up_from (x ∷ xs) h (suc i) zero d le within = absurd (omega (arith, le))
+  up_from (x ∷ xs) h (suc i) (suc j) d le within = up_from xs h.1 i j d (omega (arith, le)) (omega (arith, within))
+
+  pub rising_up : (xs : List X) → IsNonDecreasingBy number (in_rising_number number xs)
+  rising_up xs = λ i j d le within. up_from (in_rising_number number xs) (all_rise xs) i j d le within
+
+  pub rising_stays : (xs : List X) → IsStableByKey number nat_cmp xs (in_rising_number number xs)
+  rising_stays xs = λ x. same_test x (in_rising_number number xs) ∙ all_stay (number x) xs ∙ sym (same_test x xs)
 
 -- what keeps the number keeps the order
 module _ {X Y : Type 0} (number : X → ℕ) (same : Y → ℕ) (f : X → Y) (keeps : (x : X) → same (f x) ≡ number x) where

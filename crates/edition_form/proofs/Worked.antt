@@ -1,10 +1,9 @@
 -- The definitions at worked logs, whose octets were computed apart from them: one plot straight north, at 256/256 NM.
-use Rattle.std.proofs.Common.{◌≡◌, refl, ap, ◌∙◌, lit≤, lit<, ℕ, ◌≤◌, ◌<◌, ◌%◌, ℤ, pos, negsuc, neg_ℤ, ◌≤ℤ◌, List, [], ◌∷◌, ◌++◌, Option, Some, None, true, false, map, arith}
+use Rattle.std.proofs.Common.{◌≡◌, refl, ap, ◌∙◌, lit≤, lit<, ℕ, ◌%◌, pos, neg_ℤ, ◌≤ℤ◌, List, [], ◌∷◌, ◌++◌, Some, None, true, false, map, arith}
 use Rattle.trk_base.specs.declared.keys.Key.{Key}
 use Rattle.trk_base.specs.declared.plots.RawPlot.{RawPlot}
 use Rattle.trk_base.specs.Ranges.{IsCode, IsLevel, IsAddress}
-use Rattle.trk_base.specs.Numbers.{isqrt, exp2_lin}
-use Rattle.plot_geometry.specs.declared.biases.Bias.{Bias}
+use Rattle.trk_base.specs.Numbers.{isqrt}
 use Rattle.plot_geometry.specs.declared.radars.RadarSettings.{RadarSettings}
 use Rattle.plot_geometry.specs.Plots.{PlanePlot}
 use Rattle.plot_geometry.specs.Plane.{slant_range, azimuth, height_above, ground_range, cross_range_sigma, squared_sine, axis_variance}
@@ -33,7 +32,7 @@ use Rattle.admission_log.specs.declared.events.Event.{Event}
 use Rattle.admission_log.specs.declared.events.Event.TheVariants as events
 use Rattle.admission_log.specs.declared.events.Outcome.TheVariants as outcomes
 use Rattle.admission_log.specs.Sources.{HaveOwnSources}
-use Rattle.admission_log.specs.Histories.{History, first, last_of}
+use Rattle.admission_log.specs.Histories.{History, last_of}
 use Rattle.admission_log.specs.Plots.{plots_of}
 use Rattle.slot_step.specs.Tracker.{step_tracks}
 use Rattle.cat062_out.specs.Tracks.{TrackLine}
@@ -251,10 +250,10 @@ shown_is : shown_of settings one_plot ≡ shown ∷ []
 shown_is =
     ap (λ tracks. lines_of 4608128 (shown_tracks life 4608128 tracks)) table_is ∙ (ap (lines_of 4608128) kept_at_first ∙ one_line)
 
--- ---- the next edition, half a minute later: the track is gone
+-- ---- the next edition, half a minute later: the track has ended
 
 abbrev half_a_minute : History
-half_a_minute = log_of (delivery ∷ events.Tick 4608128 ∷ events.Tick 4612000 ∷ [])
+half_a_minute = log_of (delivery ∷ events.Tick 4608128 ∷ events.Tick 4611968 ∷ [])
 
 later_plots : plots_of settings half_a_minute ≡ plot ∷ []
 unfolding isqrt slant_range azimuth height_above ground_range cross_range_sigma squared_sine axis_variance plane_plot right_angle_halved turns sine_cosine
@@ -264,12 +263,12 @@ later_fold : before (step_tracks life) slot_of_plot [] (plot ∷ []) 72062 ≡ t
 unfolding before track batch_step table_at run begun tried assigned unexpired first_best least_of
 later_fold = refl
 
-expired : shown_tracks life 4612000 (track ∷ []) ≡ []
+expired : shown_tracks life 4611968 (track ∷ []) ≡ []
 unfolding unexpired track
 expired = refl
 
 none_shown : shown_of settings half_a_minute ≡ []
-none_shown = ap (λ plots. lines_of 4612000 (shown_tracks life 4612000 (before (step_tracks life) slot_of_plot [] plots 72062))) later_plots ∙ (ap (λ tracks. lines_of 4612000 (shown_tracks life 4612000 tracks)) later_fold ∙ ap (lines_of 4612000) expired)
+none_shown = ap (λ plots. lines_of 4611968 (shown_tracks life 4611968 (before (step_tracks life) slot_of_plot [] plots 72062))) later_plots ∙ (ap (λ tracks. lines_of 4611968 (shown_tracks life 4611968 tracks)) later_fold ∙ ap (lines_of 4611968) expired)
 
 -- against the first edition, whose cut is 2
 shown_before : shown_at settings half_a_minute 2 ≡ shown ∷ []

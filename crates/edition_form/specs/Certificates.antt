@@ -18,7 +18,7 @@ abbrev pub open_slots : ℕ → List PlanePlot → List ℕ
 open_slots low plots = filter (nat_le low) (slots slot_of_plot plots)
 
 -- For each of them in rising order, its certificates are those of the slot's step in the fold. They are in the order of slot, radar and least plot.
-pub record AreCertificatesOf (settings : Settings) (log : History) (certs : List Cert) : Type 0 where
+pub record AreLogCertificates (settings : Settings) (log : History) (certs : List Cert) : Type 0 where
   pub by_slot : List (List KeyedCert)
   pub each : OutsAt (step_tracks settings.life) slot_of_plot (AreTold settings.life) [] (plots_of settings log) (open_slots (low_at settings.window (last_of log)) (plots_of settings log)) by_slot
   pub all : certs ≡ flat_map (map (λ k. k.cert)) by_slot

@@ -4,7 +4,7 @@ use Rattle.admission_log.specs.declared.settings.Settings.{Settings}
 use Rattle.admission_log.specs.Histories.{History, last_of}
 use Rattle.edition_form.specs.declared.edition.Edition.{Edition}
 use Rattle.edition_form.specs.Datagrams.{AreDatagramsOf}
-use Rattle.edition_form.specs.Certificates.{AreCertificatesOf}
+use Rattle.edition_form.specs.Certificates.{AreLogCertificates}
 
 -- of all its events, with that number, after the edition at the cut before
 pub record IsEdition (settings : Settings) (log : History) (before number : ℕ) (edition : Edition) : Type 0 where
@@ -13,4 +13,4 @@ pub record IsEdition (settings : Settings) (log : History) (before number : ℕ)
   pub before_is : edition.before ≡ before
   pub time : edition.time ≡ last_of log
   pub datagrams : AreDatagramsOf settings log before number edition.datagrams
-  pub certs : AreCertificatesOf settings log edition.certs
+  pub certs : AreLogCertificates settings log edition.certs

@@ -1,5 +1,5 @@
 -- The lines of an edition's tracks (ASTERIX Part 9, category 062): those that are shown, and those that are shown no more.
-use Rattle.std.specs.Prelude.{ℕ, ◌-◌, ◌/◌, ◌≤◌, min, nat_lt, Bool, true, false, not, ◌==◌, ◌&&◌, List, map, ◌++◌, filter, Option, ℤ, pos, unsigned_abs}
+use Rattle.std.specs.Prelude.{ℕ, ◌-◌, ◌/◌, ◌≤◌, min, nat_lt, Bool, true, false, not, ◌==◌, ◌&&◌, List, map, ◌++◌, filter, ℤ, pos, unsigned_abs}
 use Rattle.std.specs.Option.{option_map}
 use Rattle.std.specs.Ordering.{is_eq, nat_cmp, ordering_then}
 use Rattle.std.specs.declared.cmp.Ordering.{Ordering}
@@ -95,16 +95,16 @@ abbrev pub line_now : List ShownLine → ShownLine → TrackLine
 line_now old s = record s.line { first = not (is_among old s); ended = false }
 
 -- the last line of a track that is shown no more, with TSE (I062/080)
-abbrev pub last_line : ShownLine → TrackLine
-last_line s = record s.line { first = false; ended = true }
+abbrev pub ended_line : ShownLine → TrackLine
+ended_line s = record s.line { first = false; ended = true }
 
 -- the tracks that were shown before and aren't now
-abbrev pub gone : List ShownLine → List ShownLine → List ShownLine
-gone old now = filter (λ s. not (is_among now s)) old
+abbrev pub ended_tracks : List ShownLine → List ShownLine → List ShownLine
+ended_tracks old now = filter (λ s. not (is_among now s)) old
 
--- all lines that are told, in rising number; of one number the track that is gone comes first
+-- all lines that are told, in rising number; of one number the one that ended comes first
 abbrev pub told_lines : List ShownLine → List ShownLine → List TrackLine
-told_lines old now = in_rising_number (λ l. l.number) (map last_line (gone old now) ++ map (line_now old) now)
+told_lines old now = in_rising_number (λ l. l.number) (map ended_line (ended_tracks old now) ++ map (line_now old) now)
 
 -- ---- what is asked of lines that were shown before
 

@@ -1,4 +1,4 @@
--- What the code finds out of one track that it may show.
+-- The number by which a track is shown in a slot.
 use Rattle.std.specs.Prelude.{ℕ, ◌&&◌, if◌then◌else◌, Option, None}
 use Rattle.track_life.specs.declared.settings.LifeSettings.{LifeSettings}
 use Rattle.track_life.specs.Tracks.{TrackState}

@@ -24,6 +24,8 @@ use trk_base::{DAY, NoMemory, Sequence};
 /// plot of the table is as late. `number` is the edition's number, `cut` how many events it shows,
 /// `before` the cut of the edition before it, and `old` the lines that were shown there, in rising
 /// number and birth. `certs` go into the edition as they are.
+///
+/// Its one error is want of memory.
 pub fn build(
     alloc: Global,
     settings: &Settings,

@@ -81,6 +81,7 @@ struct TrackBlocks {
 }
 
 impl TrackBlocks {
+    // No records, and a room for one.
     fn new(alloc: Global) -> Result<TrackBlocks, NoMemory>
         ensures { IfOk result (λ b. IsPackingOf 62 [] b.packing) }
     {

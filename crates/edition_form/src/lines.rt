@@ -16,7 +16,7 @@ use trk_base::{Key, isqrt, round_div};
 // A track coasts where its last plot is older than 12 s, in 1/128 s (I062/080 CST).
 const COAST_AGE: u64 = 1_536;
 
-/// The line of a track that is shown, with the track's birth: the number of a track that is gone may
+/// The line of a track that is shown, with the track's birth: the number of a track that is ended may
 /// be given to another, so a track is told by both.
 #[derive(Clone, Copy, Debug)]
 pub struct ShownLine {

@@ -32,11 +32,12 @@ pub(crate) fn radar_lines(
     Ok(lines)
 }
 
+// The line of one radar.
 fn radar_line(radar: &RadarSettings, bias: Bias, service: Option<u64>, time: u64) -> RadarLine
     ensures { result ≡ radar_line time radar.now bias service }
 {
     let con = con(time, service);
-    line_with(
+    state_with(
         radar.sac,
         radar.sic,
         con,
@@ -45,7 +46,8 @@ fn radar_line(radar: &RadarSettings, bias: Bias, service: Option<u64>, time: u64
     )
 }
 
-fn line_with(sac: u8, sic: u8, con: u8, time_ms: i16, bias: Bias) -> RadarLine
+// The line of a radar with these values.
+fn state_with(sac: u8, sic: u8, con: u8, time_ms: i16, bias: Bias) -> RadarLine
     requires { con ≤ 3 }
     ensures { result ≡ record { sac = sac; sic = sic; con = con; time_ms = time_ms; gain = bias.gain; range = bias.range; azimuth = bias.azimuth } }
 {
@@ -88,6 +90,7 @@ pub(crate) fn nogo(radars: &[RadarLine]) -> u8
     if has_operational(radars) { 0 } else { 1 }
 }
 
+// Whether some radar is operational.
 fn has_operational(radars: &[RadarLine]) -> bool
     ensures { result ≡ list_any (λ l. l.con == 0) radars.now }
 {

@@ -1,19 +1,21 @@
 // Which lines are told, against those that were shown at the cut before.
 ghost use Rattle.std.specs.Prelude.{◌≡◌, ◌<◌, ◌≤◌, ◌+◌, ◌++◌, ◌⊎◌, Bool, true, false, not, if◌then◌else◌, length, drop, slice_index_or};
 ghost use Rattle.std.specs.Option.{option_to_list};
-ghost use Rattle.edition_form.specs.Lines.{are_of_one_track, last_line};
+ghost use Rattle.edition_form.specs.Lines.{are_of_one_track, ended_line};
 ghost use Rattle.edition_form.specs.declared.lines.ShownLine.{ShownLine};
-ghost use Rattle.edition_form.specs.Telling.{IsTold, ended_line, is_first, left, old_first, past_now, past_old};
+ghost use Rattle.edition_form.specs.Telling.{IsUnderway, told_old, is_first, left, old_first, past_now, past_old};
 
 use crate::ShownLine;
 use cat062_out::TrackLine;
 
-/// How many lines of two lists were told, of the old ones and of those shown now, and whether the
-/// track of the next line shown now is among the old ones that came before.
+/// How far two lists of lines were told.
 #[derive(Clone, Copy, Debug)]
 pub(crate) struct Told {
+    /// How many of the old lines came before.
     pub old_count: usize,
+    /// How many of the lines shown now came before.
     pub now_count: usize,
+    /// Whether the track of the next line shown now is among the old lines that came before.
     pub known: bool,
 }
 
@@ -22,9 +24,9 @@ impl Told {
     // shown now the one with the lower number comes next, and of one number the old one, which is
     // told only where its track isn't shown now.
     pub(crate) fn next(&self, old: &[ShownLine], now: &[ShownLine]) -> (Option<TrackLine>, Told)
-        requires told { IsTold old.now now.now self.now }
+        requires told { IsUnderway old.now now.now self.now }
         requires some_left { (self.now.old_count < length old.now) ⊎ (self.now.now_count < length now.now) }
-        ensures told { IsTold old.now now.now result.1 }
+        ensures told { IsUnderway old.now now.now result.1 }
         ensures line { left old.now now.now self.now ≡ option_to_list result.0 ++ left old.now now.now result.1 }
         ensures further { result.1.old_count + result.1.now_count ≡ self.now.old_count + self.now.now_count + 1 }
     {
@@ -47,7 +49,7 @@ impl Told {
     // The next old line: it is told unless its track is the next one that is shown now.
     fn past_old(&self, old: &[ShownLine], now: &[ShownLine]) -> (Option<TrackLine>, Told)
         requires { self.now.old_count < length old.now }
-        ensures line { (d : ShownLine) → result.0 ≡ ended_line (slice_index_or old.now self.now.old_count d) (drop self.now.now_count now.now) }
+        ensures line { (d : ShownLine) → result.0 ≡ told_old (slice_index_or old.now self.now.old_count d) (drop self.now.now_count now.now) }
         ensures told { (d : ShownLine) → result.1 ≡ past_old self.now (slice_index_or old.now self.now.old_count d) (drop self.now.now_count now.now) }
     {
         let line = &old[self.old_count];
@@ -57,7 +59,7 @@ impl Told {
             now_count: self.now_count,
             known: self.known || is_shown,
         };
-        (line.ended_line(is_shown), next)
+        (line.told_old(is_shown), next)
     }
 
     // Whether the track of a line is the next one that is shown now.
@@ -83,6 +85,7 @@ impl Told {
 }
 
 impl ShownLine {
+    // Its number.
     fn number(&self) -> u16
         ensures { result ≡ self.now.line.number }
     {
@@ -96,20 +99,20 @@ impl ShownLine {
         self.line.number == other.line.number && self.birth.cmp(&other.birth).is_eq()
     }
 
-    // The last line, unless the track is still shown.
-    fn ended_line(&self, is_shown: bool) -> Option<TrackLine>
-        ensures { result ≡ (if is_shown then None else Some (last_line self.now)) }
+    // What is told of an old line: the last line of its track, unless that is still shown.
+    fn told_old(&self, is_shown: bool) -> Option<TrackLine>
+        ensures { result ≡ (if is_shown then None else Some (ended_line self.now)) }
     {
         if is_shown {
             None
         } else {
-            Some(self.last_line())
+            Some(self.ended_line())
         }
     }
 
     // The last line of a track that is shown no more.
-    fn last_line(&self) -> TrackLine
-        ensures { result ≡ last_line self.now }
+    fn ended_line(&self) -> TrackLine
+        ensures { result ≡ ended_line self.now }
     {
         let mut line = self.line;
         line.first = false;

@@ -1,5 +1,5 @@
 -- A step over the digits of an angle.
-use Rattle.std.proofs.Common.{◌≡◌, ◌∙◌, ap, sym, refl, ℕ, suc, ◌+◌, ◌-◌, ◌*◌, ◌%◌, ◌^◌, ◌<◌, ◌≤◌, true, false, cond, arith, ℤ, pos}
+use Rattle.std.proofs.Common.{◌≡◌, ◌∙◌, ap, sym, refl, ℕ, suc, ◌+◌, ◌-◌, ◌*◌, ◌%◌, ◌^◌, ◌<◌, ◌≤◌, true, false, cond, arith, ℤ}
 use Rattle.std.proofs.Math.Nat.{pow-succ'}
 use Rattle.scene_gen.specs.Bearings.{bearing_from, direction, lies_on}
 

@@ -14,3 +14,4 @@ pub mod Runs
 pub mod FleetPhases
 pub mod Playing
 pub mod Making
+pub mod Arriving

@@ -1,12 +1,12 @@
 -- North markers and ticks.
-use Rattle.std.proofs.Common.{◌≡◌, ◌∙◌, ap, sym, refl, ℕ, ◌+◌, ◌*◌, ◌%◌, ◌<◌, ◌≤◌, List, [], ◌∷◌, ◌++◌, length, map, take, get_or, Bool, true, false, cond, eqb, ltb, arith, pos}
+use Rattle.std.proofs.Common.{◌≡◌, ◌∙◌, ap, sym, refl, ℕ, ◌+◌, ◌*◌, ◌%◌, ◌<◌, ◌≤◌, List, [], ◌∷◌, ◌++◌, map, take, get_or, Bool, true, false, cond, pos}
 use Rattle.std.specs.Prelude.{◌==◌, filter}
 use Rattle.std.specs.List.{flat_map}
 use Rattle.std.proofs.lemmas.Bool.{le-ltb, lt-ltb}
 use Rattle.std.proofs.lemmas.List.{append-nil, append_assoc, map-append}
 use Rattle.std.proofs.lemmas.List.Concat.{flat_map-append}
 use Rattle.std.proofs.lemmas.List.Elements.{filter_more}
-use Rattle.recording.specs.Items.{Item, item_octets}
+use Rattle.recording.specs.Items.{item_octets}
 use Rattle.scene_gen.specs.declared.radars.SceneRadar.{SceneRadar}
 use Rattle.scene_gen.specs.Datagrams.{north_marker}
 use Rattle.scene_gen.specs.Radars.{radars}

@@ -5,7 +5,7 @@ use Rattle.std.specs.List.{AllByRecursion, flat_map}
 use Rattle.std.proofs.lemmas.List.Elements.{recursion_from_All}
 use Rattle.std.proofs.lemmas.Nat.{mod_below}
 use Rattle.rand_pcg.specs.Lcg.{Lcg}
-use Rattle.recording.specs.Items.{Item, item_octets}
+use Rattle.recording.specs.Items.{Item}
 use Rattle.scene_gen.specs.declared.fleet.Aircraft.{Aircraft}
 use Rattle.scene_gen.specs.declared.radars.SceneRadar.{SceneRadar}
 use Rattle.scene_gen.specs.declared.sweeps.Sweep.{Sweep}

@@ -3,6 +3,7 @@ use Rattle.std.specs.Prelude.{ℕ, ◌+◌, ◌*◌, ◌%◌, ◌==◌, ◌&&◌
 use Rattle.std.specs.List.{range_with_len}
 use Rattle.recording.specs.declared.header.Header.TheVariants.{First}
 use Rattle.recording.specs.Items.{Item, tick}
+use Rattle.recording.specs.Raw.{second}
 use Rattle.recording.specs.Readings.{recording}
 use Rattle.scene_gen.specs.declared.fleet.Aircraft.{Aircraft}
 use Rattle.scene_gen.specs.Datagrams.{north_marker, plot, start}
@@ -11,10 +12,6 @@ use Rattle.scene_gen.specs.Draws.{after, generator_of}
 use Rattle.scene_gen.specs.Fleets.{fleet_from}
 use Rattle.scene_gen.specs.Radars.{radars}
 use Rattle.scene_gen.specs.Sightings.{sees}
-
--- units of time, of 1/128 s, in a second
-abbrev pub second : ℕ
-second = 128
 
 -- the plots that are seen at a time: by radar, then by aircraft
 abbrev pub seen_at : List Aircraft → ℕ → List Item

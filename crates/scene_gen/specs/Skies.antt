@@ -2,11 +2,12 @@
 use Rattle.std.specs.Prelude.{◌≡◌, ℕ, ◌*◌, min, List, length, flat_map}
 use Rattle.std.specs.List.{All, range_with_len}
 use Rattle.rand_pcg.specs.Lcg.{Lcg}
+use Rattle.recording.specs.Raw.{second}
 use Rattle.scene_gen.specs.declared.fleet.Aircraft.{Aircraft}
 use Rattle.scene_gen.specs.declared.sky.Sky.{Sky}
 use Rattle.scene_gen.specs.Delays.{Plot, after_delays, delayed}
 use Rattle.scene_gen.specs.OnWay.{AreOnWay}
-use Rattle.scene_gen.specs.Scenes.{plots_of, second, seen_at}
+use Rattle.scene_gen.specs.Scenes.{plots_of, seen_at}
 use Rattle.scene_gen.specs.Sweeps.{AreSweeps, IsWhole}
 
 -- the plots that were seen before a time

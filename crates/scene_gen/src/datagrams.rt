@@ -8,6 +8,9 @@ use crate::radars::SceneRadar;
 use crate::sightings::Polar;
 use trk_base::DAY;
 
+/// Units of time, of 1/128 s, in a second.
+pub(crate) const SECOND: u32 = 128;
+
 /// When a scene starts, in 1/128 s: at 10:00:00.
 pub(crate) const START: u64 = 4_608_000;
 

@@ -4,7 +4,7 @@ ghost use Rattle.std.specs.List.{flat_map};
 ghost use Rattle.recording.specs.Items.{item_octets};
 ghost use Rattle.scene_gen.specs.Scenes.{north_markers, scene, tick_at};
 
-use crate::datagrams::{START, north_octets};
+use crate::datagrams::{SECOND, START, north_octets};
 use crate::draws::generator_of;
 use crate::fleet::next_fleet;
 use crate::radars::RADARS;
@@ -12,9 +12,6 @@ use crate::sky::Sky;
 use recording::{Item, write_item, write_start};
 use std::alloc::Global;
 use trk_base::NoMemory;
-
-/// Units of time, of 1/128 s, in a second.
-pub(crate) const SECOND: u32 = 128;
 
 // How many seconds a scene goes on when no more plots are seen, so that all have come.
 const LAST_SECONDS: u32 = 10;
@@ -45,11 +42,13 @@ fn put_tick(alloc: Global, time: u32, octets: &mut Vec<u8>) -> Result<(), NoMemo
     Ok(())
 }
 
-// The octets of a scene whose plots are all there.
+// The most octets that a scene has, when no aircraft leaves the range of a radar: the header, a plot
+// of each aircraft and a north marker for each turn that a radar has begun, and the ticks.
 fn room(aircraft: u16, seconds: u16) -> usize {
-    let time = 128 * usize::from(seconds);
-    let turns = time / 512 + time / 640 + time / 1_280 + 3;
-    9 + turns * (26 * usize::from(aircraft) + 14) + 6 * (usize::from(seconds) + 10)
+    let time = SECOND * u32::from(seconds);
+    let turns = time / RADARS[0].period + time / RADARS[1].period + time / RADARS[2].period + 3;
+    let turn = 26 * usize::from(aircraft) + 14;
+    9 + turns as usize * turn + 6 * (usize::from(seconds) + LAST_SECONDS as usize)
 }
 
 /// The recording of a scene of a seed: so many aircraft are seen by three radars for so many

@@ -11,10 +11,9 @@ ghost use Rattle.scene_gen.specs.Skies.{IsReady, IsSky, seen_before};
 ghost use Rattle.scene_gen.specs.Sweeps.{HavePhases};
 
 use crate::bearings::Directions;
-use crate::datagrams::PlotOctets;
+use crate::datagrams::{PlotOctets, SECOND};
 use crate::delays::{OnWay, none_on_way, send, take_at};
 use crate::fleet::Aircraft;
-use crate::scenes::SECOND;
 use crate::sweeps::{Sweep, look_at, sweeps_of};
 use rand_pcg::Pcg32;
 use std::alloc::Global;
@@ -23,13 +22,16 @@ use trk_base::NoMemory;
 /// What the radars see of a fleet, and the plots of it that are on their way.
 #[derive(Drop)]
 pub(crate) struct Sky {
+    /// For how many seconds the radars see.
     pub seconds: u16,
+    /// How many of a hundred plots are late.
     pub late: u8,
     pub sweeps: Vec<Sweep>,
     pub directions: Directions,
+    /// What the delays are drawn from.
     pub generator: Pcg32,
     pub on_way: OnWay,
-    // The plots of one time; its room serves the next.
+    /// The plots of one time; their room serves the next.
     pub plots: Vec<PlotOctets>,
 }
 

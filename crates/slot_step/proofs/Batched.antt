@@ -63,7 +63,7 @@ unfolding IsStrictlySortedBy
 plots_append [] qs h g c = g
 plots_append (p ∷ ps) qs h g c = (all_append (λ q. key_cmp p.key q.key ≡ Less) ps qs h.0 c.0, plots_append ps qs h.1 g c.1)
 
-none_sorted : IsStrictlySortedBy (λ (p : PlanePlot) q. key_cmp p.key q.key) []
+pub none_sorted : IsStrictlySortedBy (λ (p : PlanePlot) q. key_cmp p.key q.key) []
 unfolding IsStrictlySortedBy
 none_sorted = tt
 

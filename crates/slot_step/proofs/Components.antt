@@ -100,7 +100,7 @@ zip_made R [] (b ∷ ys) l f = absurd (omega (arith, l))
 zip_made R (a ∷ xs) [] l f = absurd (omega (arith, l))
 zip_made R (a ∷ xs) (b ∷ ys) l f = (f 0 a b refl refl, zip_made R xs ys (omega (arith, l)) (λ m x y h g. f (suc m) x y h g))
 
-sorted_at : {X : Type 0} (cmp : X → X → Ordering) (xs : List X) → IsStrictlySortedBy cmp xs → (i j : ℕ) (x y : X) → i < j → IsAt xs i x → IsAt xs j y → cmp x y ≡ Less
+pub sorted_at : {X : Type 0} (cmp : X → X → Ordering) (xs : List X) → IsStrictlySortedBy cmp xs → (i j : ℕ) (x y : X) → i < j → IsAt xs i x → IsAt xs j y → cmp x y ≡ Less
 unfolding IsStrictlySortedBy
 sorted_at cmp [] s i j x y l h g = absurd h
 sorted_at cmp (z ∷ xs) s i zero x y l h g = absurd (omega (arith, l))

@@ -1,5 +1,5 @@
 -- Plots of a slot are cut into batches.
-use Rattle.std.proofs.Common.{◌≡◌, ◌∙◌, ap, sym, refl, ℕ, zero, suc, ◌+◌, ◌<◌, ◌≤◌, append_assoc, append-nil, length-append, length-drop, List, [], ◌∷◌, ◌++◌, length, get_or, map, take, drop, true, false, leb, arith, subst, inl, inr}
+use Rattle.std.proofs.Common.{◌≡◌, ◌∙◌, ap, sym, refl, ℕ, zero, suc, ◌+◌, ◌-◌, ◌<◌, ◌≤◌, append_assoc, append-nil, length-append, length-drop, List, [], ◌∷◌, ◌++◌, length, get_or, map, take, drop, true, false, leb, arith, subst, inl, inr}
 use Rattle.std.specs.Prelude.{Contains}
 use Rattle.std.specs.List.{AllByRecursion}
 use Rattle.std.specs.List.Sorted.{IsStrictlySortedBy, IsStrictlyIncreasing, IsPartitionPoint, IsPartitionedBy}
@@ -8,15 +8,17 @@ use Rattle.std.specs.Ordering.{ordering_reverse}
 use Rattle.trk_base.specs.KeyOrder.{key_cmp_total}
 use Rattle.std.proofs.lemmas.Bool.{leb-true, le-leb, cases_lt}
 use Rattle.std.proofs.lemmas.List.{take-append-drop}
-use Rattle.std.proofs.lemmas.List.Elements.{Contains-get_or, Contains-append_left}
+use Rattle.std.proofs.lemmas.List.Elements.{Contains-get_or, recursion_from_All, Contains-append_left}
 use Rattle.trk_base.specs.declared.keys.Key.{Key}
 use Rattle.trk_base.specs.Keys.{key_cmp}
 use Rattle.plot_geometry.specs.Plots.{PlanePlot}
 use Rattle.slot_step.specs.OneBatch.{Batch, IsBatch}
-use Rattle.slot_step.specs.Calls.{AreBatches, IsFirstBatch, plots_of}
-use Rattle.slot_step.proofs.Batched.{by_radar}
+use Rattle.slot_step.specs.Calls.{AreBatches, GoesOn, IsFirstBatch, plots_of}
+use Rattle.slot_step.proofs.Batched.{by_radar, none_sorted}
 use Rattle.slot_step.proofs.Interleavings.{all_append, all_contains, all_weaker, contains_first, contains_later}
-use Rattle.slot_step.proofs.Components.{rest_rises}
+use Rattle.std.proofs.lemmas.Cmp.{on_total}
+use Rattle.std.proofs.lemmas.Map.Keys.{sorted_from_all_adjacent}
+use Rattle.slot_step.proofs.Components.{get_at, rest_rises, sorted_at}
 use Rattle.slot_step.proofs.Paired.{map_one}
 use Rattle.slot_step.proofs.Passing.{halves}
 use Rattle.std.proofs.Math.Seq.{drop-append_seam}
@@ -185,3 +187,22 @@ cut_more ps bs from b c f =
     all_back : {X : Type 0} (Q : X → Type 0) (xs ys : List X) → AllByRecursion Q (xs ++ ys) → AllByRecursion Q ys
     all_back Q [] ys h = h
     all_back Q (x ∷ xs) ys h = all_back Q xs ys h.1
+
+-- each plot goes on from the one before it
+each_goes_on : (n : ℕ) (ps : List PlanePlot) → Rise ps → OfSlot n ps → (i : ℕ) → i < length ps → GoesOn n ps i
+each_goes_on n ps h s i lt = record {
+  slot = λ d. all_contains (λ p. p.key.slot ≡ n) (get_or ps i d) ps s (Contains-get_or ps i d lt);
+  above = λ d pos. sorted_at (λ p q. key_cmp p.key q.key) ps h (i - 1) i (get_or ps (i - 1) d) (get_or ps i d) (omega (arith, pos)) (get_at d ps (i - 1) (omega (arith, lt, pos))) (get_at d ps i lt);
+}
+
+pub one_stops : (n : ℕ) (ps : List PlanePlot) (i : ℕ) → i < length ps → (GoesOn n ps i → ⊥) → Rise ps × OfSlot n ps → ⊥
+one_stops n ps i lt f h = f (each_goes_on n ps h.0 h.1 i lt)
+
+pub all_go_on : (n : ℕ) (ps : List PlanePlot) → ((i : ℕ) → i < length ps → GoesOn n ps i) → Rise ps × OfSlot n ps
+all_go_on n [] f = (none_sorted, tt)
+all_go_on n (p ∷ ps) f = (
+  sorted_from_all_adjacent (on_total (λ (q : PlanePlot). q.key) key_cmp_total) (p ∷ ps) p (λ k lt.
+      let e : k + 1 - 1 ≡ k = omega arith in
+      subst (λ j. key_cmp (get_or (p ∷ ps) j p).key (get_or (p ∷ ps) (k + 1) p).key ≡ Less) e ((f (k + 1) lt).above p (omega arith))),
+  recursion_from_All (λ q. q.key.slot ≡ n) (p ∷ ps) (λ k d lt. (f k lt).slot d),
+)

@@ -1,7 +1,8 @@
 -- What the step of a slot is called with: the batches of the slot's radars, and tracks from before it.
-use Rattle.std.specs.Prelude.{◌≡◌, ◌++◌, ◌<◌, ◌*◌, ℕ, List, map, flat_map}
+use Rattle.std.specs.Prelude.{◌≡◌, ◌++◌, ◌<◌, ◌*◌, ◌-◌, ℕ, List, get_or, map, flat_map}
 use Rattle.std.specs.List.{All, AllByRecursion}
 use Rattle.std.specs.List.Sorted.{IsStrictlySortedBy, IsStrictlyIncreasing}
+use Rattle.std.specs.declared.cmp.Ordering.TheVariants.{Less}
 use Rattle.trk_base.specs.Keys.{key_cmp}
 use Rattle.plot_geometry.specs.Plots.{PlanePlot}
 use Rattle.fixed_imm.specs.Bounds.{IsTimeStep, time_step}
@@ -11,6 +12,11 @@ use Rattle.slot_step.specs.OneBatch.{Batch, IsBatch}
 -- plots of one slot
 abbrev pub AreOfOneSlot : List PlanePlot → Type 0
 AreOfOneSlot ps = (n : ℕ) × AllByRecursion (λ p. p.key.slot ≡ n) ps
+
+-- the plot at this index is of slot n and above the one before it
+pub record GoesOn (n : ℕ) (ps : List PlanePlot) (i : ℕ) : Type 0 where
+  pub slot : (d : PlanePlot) → (get_or ps i d).key.slot ≡ n
+  pub above : (d : PlanePlot) → 0 < i → key_cmp (get_or ps (i - 1) d).key (get_or ps i d).key ≡ Less
 
 -- the plots of the first radar, in front of the others
 pub record IsFirstBatch (ps : List PlanePlot) (b : Batch) : Type 0 where

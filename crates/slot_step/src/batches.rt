@@ -1,9 +1,9 @@
 // What a slot's step takes in: batches of plots.
-ghost use Rattle.std.specs.Prelude.{◌≡◌, ◌<◌, ℕ, length, IfOk};
+ghost use Rattle.std.specs.Prelude.{◌≡◌, ◌<◌, ◌↔◌, ℕ, length, IfOk, IsTrue};
 ghost use Rattle.std.specs.List.{AllByRecursion};
 ghost use Rattle.std.specs.List.Sorted.{IsStrictlySortedBy};
 ghost use Rattle.trk_base.specs.Keys.{key_cmp};
-ghost use Rattle.slot_step.specs.Calls.{AreOfOneSlot, AreBatches, IsFirstBatch, plots_of};
+ghost use Rattle.slot_step.specs.Calls.{AreOfOneSlot, AreBatches, GoesOn, IsFirstBatch, plots_of};
 
 use plot_geometry::PlanePlot;
 use std::alloc::Global;
@@ -29,6 +29,34 @@ impl Model for Batch {
     ghost invariant = { λ b. IsBatch (record { radar = b.radar; plots = b.plots }) };
 
     ghost inverse = { λ b. record { radar = b.radar; plots = b.plots } };
+}
+
+// Whether the plot at this index is of the slot and above the one before it.
+fn goes_on(slot: u64, plots: &[PlanePlot], index: usize) -> bool
+    requires { index < length plots.now }
+    ensures { IsTrue result ↔ GoesOn slot plots.now index }
+{
+    let plot = &plots[index];
+    if plot.key.slot != slot {
+        return false;
+    }
+    if index == 0 {
+        return true;
+    }
+    let before = &plots[index - 1];
+    before.key.cmp(&plot.key).is_lt()
+}
+
+/// Whether these plots are of the slot and stand in strictly rising key, as [`batches_of`] asks.
+pub fn are_slot_plots(slot: u64, plots: &[PlanePlot]) -> bool
+    ensures { IsTrue result ↔ (IsStrictlySortedBy (λ p q. key_cmp p.key q.key) plots.now × AllByRecursion (λ p. p.key.slot ≡ slot) plots.now) }
+{
+    for index in 0..plots.len() {
+        if !goes_on(slot, plots, index) {
+            return false;
+        }
+    }
+    true
 }
 
 // The plots of the first radar, which stand in front.

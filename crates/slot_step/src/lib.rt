@@ -21,7 +21,7 @@ mod slots;
 #[cfg(test)]
 mod tests;
 
-pub use batches::{Batch, batches_of};
+pub use batches::{Batch, are_slot_plots, batches_of};
 pub use certs::KeyedCert;
 pub use laws::{
     batch_certificates, component_certificates, empty_batch, expired_twice, keyed_tracks,

@@ -1,8 +1,7 @@
 // Slots whose tracks were worked by hand.
-ghost use Rattle.std.specs.Prelude.{◌≡◌, ◌<◌, length};
-ghost use Rattle.std.specs.List.{AllByRecursion};
+ghost use Rattle.std.specs.Prelude.{◌≡◌, ◌≤◌};
 
-use crate::{SlotRan, batches_of, slot_step};
+use crate::{are_slot_plots, batches_of, slot_run, slot_step};
 use plot_geometry::PlanePlot;
 use price_form::check;
 use std::alloc::Global;
@@ -13,11 +12,43 @@ use std::test::Fail;
 use track_life::{LifeSettings, Table, Track};
 use trk_base::{Key, NoMemory, Steps, charge, slot_of};
 
-// A plot's time, radar, arrival and place to the north.
-type Row = (u64, u8, u64, i64);
+// A plot's time, radar, arrival, and place to the north in 1,000/64 m.
+type Row = (u64, u8, u64, u16);
 
-// A slot's plots.
-const REVERSE: [Row; 2] = [(4_608_063, 0, 0, 118_528), (4_608_000, 1, 1, 118_528)];
+// A track's number, whether it is confirmed and of one radar, how many plots it has, and its time.
+type Told = (Option<u16>, bool, bool, u32, u64);
+
+// With how many plots a track is confirmed, the plots of the slots from 72,000 to 72,002, and the
+// tracks after them.
+type Scene<'a> = (u8, &'a [Row], &'a [Told]);
+
+const SCENES: [Scene<'static>; 3] = [
+    // The second radar's plot is older than the first one's, which began the track.
+    (
+        1,
+        &[(4_608_063, 0, 0, 118), (4_608_000, 1, 1, 118)],
+        &[(Some(1), true, false, 2, 4_608_000)],
+    ),
+    // The track is confirmed by a plot that came after the one in the next slot.
+    (
+        3,
+        &[
+            (4_608_010, 0, 0, 118),
+            (4_608_074, 0, 2, 118),
+            (4_608_138, 0, 1, 118),
+        ],
+        &[(Some(1), true, true, 3, 4_608_138)],
+    ),
+    // Both tracks ask for number 1 first.
+    (
+        1,
+        &[(4_608_000, 0, 0, 0), (4_608_000, 0, 65_535, 60_000)],
+        &[
+            (Some(1), true, true, 1, 4_608_000),
+            (Some(2), true, true, 1, 4_608_000),
+        ],
+    ),
+];
 
 fn plot_of(row: Row) -> PlanePlot {
     PlanePlot {
@@ -28,7 +59,7 @@ fn plot_of(row: Row) -> PlanePlot {
             arrival: row.2,
         },
         x: 0,
-        y: row.3,
+        y: i64::from(row.3) * 1_000,
         rx: 18_496,
         ry: 10_240_000,
         kind: 2,
@@ -39,36 +70,18 @@ fn plot_of(row: Row) -> PlanePlot {
     }
 }
 
-// The step of a slot with these plots.
-fn step<L: Ledger>(
-    alloc: Global,
-    table: &Table,
-    rows: &[Row],
-    hits: u8,
-    steps: &mut Steps<L>,
-) -> Result<SlotRan, NoMemory> {
-    let life = LifeSettings {
-        hits,
-        keep_tentative: 15,
-        keep_confirmed: 30,
-    };
-    let mut plots = Vec::with_capacity(alloc, rows.len())?;
+// The plots of a slot.
+fn plots_in(alloc: Global, slot: u64, rows: &[Row]) -> Result<Vec<PlanePlot>, NoMemory> {
+    let mut plots = Vec::new(alloc);
     for row in rows {
-        plots.push(plot_of(*row))?;
+        if slot_of(row.0) == slot {
+            plots.push(plot_of(*row))?;
+        }
     }
-    let mut ticket = charge(1, steps);
-    let batches = batches_of(alloc, &plots)?;
-    slot_step(
-        alloc,
-        table,
-        slot_of(rows[0].0),
-        &batches,
-        &life,
-        &mut ticket,
-    )
+    Ok(plots)
 }
 
-fn told(track: &Track) -> (Option<u16>, bool, bool, u32, u64) {
+fn told(track: &Track) -> Told {
     (
         track.number,
         track.confirmed,
@@ -78,58 +91,57 @@ fn told(track: &Track) -> (Option<u16>, bool, bool, u32, u64) {
     )
 }
 
-fn steps_of<L: Ledger>(rt: &impl Abort, alloc: Global, blank: Blank) -> Result<(), Fail> {
-    let mut steps: Steps<L> = Steps::new(blank);
-    let empty = Table::empty(alloc);
-
-    // The second radar's plot is older than the first one's, of which the track is.
-    let ran = step(alloc, &empty, &REVERSE, 1, &mut steps)?;
-    assert_eq!(rt; ran.table.tracks().len(), 1);
-    assert_eq!(rt;
-        told(&ran.table.tracks()[0]),
-        (Some(1), true, false, 2, 4_608_000)
-    );
-    assert_eq!(rt; ran.certs.len(), 2);
-    for keyed in ran.certs.as_slice() {
-        assert!(rt; check(&keyed.cert));
+fn life_of(hits: u8) -> LifeSettings
+    requires from { 1 ≤ hits }
+    requires to { hits ≤ 8 }
+{
+    LifeSettings {
+        hits,
+        keep_tentative: 15,
+        keep_confirmed: 30,
     }
-    assert_eq!(rt;
-        ran.certs.as_slice()[0].cert.u.as_slice(),
-        [4_097].as_slice()
-    );
-    assert_eq!(rt;
-        ran.certs.as_slice()[1].cert.plots.as_slice(),
-        [1].as_slice()
-    );
-    assert_eq!(rt;
-        ran.certs.as_slice()[1].cert.tracks.as_slice(),
-        [0].as_slice()
-    );
+}
 
-    let far = [(4_608_000, 0, 0, 0), (4_608_000, 0, 65_535, 100_000_000)];
-    let ran = step(alloc, &empty, &far, 1, &mut steps)?;
-    assert_eq!(rt; ran.table.tracks().len(), 2);
-    assert_eq!(rt; ran.table.tracks()[0].number, Some(1));
-    assert_eq!(rt; ran.table.tracks()[1].number, Some(2));
-
+// The table after the scene's slots.
+fn fold<L: Ledger>(
+    rt: &impl Abort,
+    alloc: Global,
+    rows: &[Row],
+    life: &LifeSettings,
+    steps: &mut Steps<L>,
+) -> Result<Table, Fail> {
     let mut table = Table::empty(alloc);
-    for row in [
-        (4_608_010, 0, 0, 118_528),
-        (4_608_074, 0, 2, 118_528),
-        (4_608_138, 0, 1, 118_528),
-    ] {
-        let ran = step(alloc, &table, &[row], 3, &mut steps)?;
-        table = ran.table;
+    for slot in 72_000..72_003 {
+        let plots = plots_in(alloc, slot, rows)?;
+        assert!(rt; are_slot_plots(slot, &plots));
+        let batches = batches_of(alloc, &plots)?;
+        let mut ticket = charge(2, steps);
+        let run = slot_run(alloc, &table, slot, &batches, life, &mut ticket)?;
+        let step = slot_step(alloc, &table, slot, &batches, life, &mut ticket)?;
+        assert_eq!(rt; run.table.tracks().len(), step.table.tracks().len());
+        assert_eq!(rt; run.certs.len(), step.certs.len());
+        assert!(rt; step.certs.as_slice().iter().all(|keyed| check(&keyed.cert)));
+        table = step.table;
     }
-    assert_eq!(rt; table.tracks().len(), 1);
-    assert_eq!(rt;
-        told(&table.tracks()[0]),
-        (Some(1), true, true, 3, 4_608_138)
-    );
+    Ok(table)
+}
+
+fn folds<L: Ledger>(rt: &impl Abort, alloc: Global, blank: Blank) -> Result<(), Fail>
+    requires name { blank.name ≡ L.name }
+    requires parts { blank.parts ≡ L.parts }
+    requires one { blank.parts ≡ 1 }
+{
+    let mut steps: Steps<L> = Steps::new(blank);
+    for (hits, rows, expected) in SCENES {
+        assert!(rt; 1 <= hits && hits <= 8);
+        let table = fold(rt, alloc, rows, &life_of(hits), &mut steps)?;
+        let tracks = table.tracks();
+        assert!(rt; tracks.iter().map(told).eq(expected.iter().copied()));
+    }
     Ok(())
 }
 
 #[test]
-fn steps_through_slots(rt: HostRuntime) -> Result<(), Fail> {
-    steps_of::<Brand>(&rt, rt.alloc(), Blank::new(1))
+fn folds_slots(rt: HostRuntime) -> Result<(), Fail> {
+    folds::<Brand>(&rt, rt.alloc(), Blank::new(1))
 }

@@ -1,14 +1,17 @@
 -- The log of items: there is one at most, and how it grows.
-use Rattle.std.proofs.Common.{◌≡◌, ◌∙◌, ap, sym, refl, subst, ℕ, ◌+◌, ◌≤◌, List, [], ◌∷◌, ◌++◌, arith, append_assoc, append-nil}
-use Rattle.std.specs.Prelude.{Bool, true, false, Option, Some, None, count_by, cond}
-use Rattle.std.proofs.lemmas.List.Sums.{sum_by-cons, sum_by_push}
+use Rattle.std.proofs.Common.{◌≡◌, ◌∙◌, ap, sym, refl, subst, ℕ, ◌+◌, ◌<◌, ◌≤◌, List, [], ◌∷◌, ◌++◌, arith, append_assoc, append-nil}
+use Rattle.std.specs.Prelude.{Bool, Option, Some, None, count_by, cond, fold, max}
+use Rattle.std.specs.List.{filter_map}
+use Rattle.std.proofs.lemmas.List.Elements.{filter_map-append}
+use Rattle.std.proofs.lemmas.List.Sums.{fold-append, sum_by-cons, sum_by_push}
 use Rattle.asterix_frame.specs.Datagrams.{Content}
 use Rattle.asterix_frame.proofs.Datagrams.{one_list, not_both}
 use Rattle.recording.specs.Items.{Item, datagram, tick, bias}
 use Rattle.admission_log.specs.declared.settings.Settings.{Settings}
 use Rattle.admission_log.specs.declared.events.Event.{Event}
 use Rattle.admission_log.specs.Deliveries.{IsDeliveryTo}
-use Rattle.admission_log.specs.Histories.{History, last_of, next_of, tick_in}
+use Rattle.admission_log.specs.Histories.{History, appended, last_of, next_of, tick_in}
+use Rattle.admission_log.specs.declared.events.Event.TheVariants.{Tick}
 use Rattle.admission_log.proofs.Judgements.{one_delivery}
 use Rattle.tracker_session.specs.Counting.{is_datagram, is_tick, is_bias, is_delivery, is_tick_taken, is_change}
 use Rattle.tracker_session.specs.Replay.{Adds, IsLogAfter, IsReplayLog, empty_log, log_with}
@@ -51,6 +54,12 @@ log_rest settings earlier (item ∷ items) more log whole h k =
 pub log_push : (settings : Settings) (earlier : History) (items : List Item) (log longer : History) (item : Item) (added : Option Event) → IsLogAfter settings earlier items log → Adds settings log item added → longer ≡ log_with log added → IsLogAfter settings earlier (items ++ item ∷ []) longer
 log_push settings earlier [] log longer item added h adds e = (added, subst (λ (l : History). Adds settings l item added) h adds, e ∙ ap (λ l. log_with l added) h)
 log_push settings earlier (first ∷ items) log longer item added h adds e = (h.0, h.1, log_push settings (log_with earlier h.0) items log longer item added h.2 adds e)
+
+-- the last tick of a log with a later tick
+pub last_with : (log : History) (time : ℕ) → last_of log < time → time ≡ last_of (appended log (Tick time))
+last_with log time later =
+    let chain : last_of (appended log (Tick time)) ≡ fold max (last_of log) (time ∷ []) = ap (fold max log.start) (filter_map-append tick_in log.events (Tick time ∷ [])) ∙ fold-append max log.start (filter_map tick_in log.events) (time ∷ []) in
+    omega (arith, later, chain)
 
 abbrev pub with_events : History → List Event → History
 with_events log more = record { start = log.start; events = log.events ++ more }

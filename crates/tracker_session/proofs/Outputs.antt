@@ -12,8 +12,11 @@ use Rattle.admission_log.specs.declared.events.Event.TheVariants.{Deliver, Tick,
 use Rattle.admission_log.specs.Histories.{History, appended, first, tick_in}
 use Rattle.tracker_session.specs.Picture.{block_of, AreBlocksOf, IsEdition}
 use Rattle.tracker_session.specs.Replay.{IsEditionAt, IsOutput, cut_in, cuts_of, editions_of}
-use Rattle.tracker_session.specs.Steps.{Gives}
 use Rattle.tracker_session.proofs.Logs.{LogGoesOn, with_events}
+
+-- After the output of a log the piece makes that of a longer one.
+abbrev pub Grows : Settings → History → History → List ℕ → Type 0
+Grows settings log longer piece = (output : List ℕ) → IsOutput settings log output → IsOutput settings longer (output ++ piece)
 
 -- records have one list of blocks
 pub blocks_same : (records : List (List ℕ)) (a b : List ℕ) → AreBlocksOf records a → AreBlocksOf records b → a ≡ b
@@ -127,8 +130,12 @@ output_silent settings log event octets none h =
     }
 
 -- what gives nothing
-pub nothing_given : (settings : Settings) (log longer : History) → ((output : List ℕ) → IsOutput settings log output → IsOutput settings longer output) → Gives settings log longer []
+pub nothing_given : (settings : Settings) (log longer : History) → ((output : List ℕ) → IsOutput settings log output → IsOutput settings longer output) → Grows settings log longer []
 nothing_given settings log longer same output h = subst (λ (octets : List ℕ). IsOutput settings longer octets) (sym (append-nil output)) (same output h)
+
+-- one piece after the other
+pub grows_on : (settings : Settings) (log mid longer : History) (a b : List ℕ) → Grows settings log mid a → Grows settings mid longer b → Grows settings log longer (a ++ b)
+grows_on settings log mid longer a b h k output is = subst (λ (octets : List ℕ). IsOutput settings longer octets) (append_assoc output a b) (k (output ++ a) (h output is))
 
 one_edition : (settings : Settings) (log : History) (edition : ℕ × ℕ) (a b : List ℕ) → IsEditionAt settings log edition a → IsEditionAt settings log edition b → a ≡ b
 one_edition settings log edition a b h k = blocks_same _ a b h k

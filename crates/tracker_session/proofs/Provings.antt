@@ -10,10 +10,10 @@ use Rattle.price_form.specs.declared.certs.PriceRecord.{PriceRecord}
 use Rattle.price_form.specs.declared.certs.PriceRecord.TheVariants.{Edition, Cert as Certified}
 use Rattle.price_form.specs.Reading.{AreOffsets, IsThere, offsets_of}
 use Rattle.io_traits.specs.Places.{place_limit}
-use Rattle.tracker_session.specs.declared.status.Status.{Status}
-use Rattle.tracker_session.specs.declared.status.Status.TheVariants.{Done, Usage, Settings, Input, Read, Write, Memory, NotProved}
+use Rattle.session_script.specs.declared.status.Status.{Status}
+use Rattle.session_script.specs.declared.status.Status.TheVariants.{Done, Usage, Settings, Input, Read, Write, Memory, NotProved}
 use Rattle.tracker_session.specs.Checking.{AllProve, FirstFails, IsFile, IsProved, certificates_in, is_certificate}
-use Rattle.tracker_session.specs.CheckRuns.{FailsAt, IsFirstFailure, Judged, ProvesAt, RecordFails, StopsTaking}
+use Rattle.tracker_session.specs.Judging.{FailsAt, IsFirstFailure, Judged, ProvesAt, RecordFails, StopsTaking}
 
 -- one more certificate proves, before the first that doesn't
 first_later : (octets : List ℕ) (at : ℕ) (offsets : List ℕ) (found : Option ℕ) → length (at ∷ offsets) < 2 ^ 64 → ProvesAt octets at → MatchOption found (All (ProvesAt octets) offsets) (IsFirstFailure octets offsets)

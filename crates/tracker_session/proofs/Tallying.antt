@@ -1,5 +1,5 @@
 -- Counts with one more item.
-use Rattle.std.proofs.Common.{◌≡◌, ◌∙◌, ap, sym, refl, ℕ, zero, suc, ◌+◌, ◌-◌, ◌<◌, ◌≤◌, List, [], ◌∷◌, ◌++◌, length, get_or, take, arith, append-nil}
+use Rattle.std.proofs.Common.{◌≡◌, ◌∙◌, ap, sym, refl, ℕ, zero, suc, ◌+◌, ◌<◌, ◌≤◌, List, [], ◌∷◌, ◌++◌, length, get_or, take, arith, append-nil}
 use Rattle.std.specs.Prelude.{Bool, true, false, Some, None, count_by, cond}
 use Rattle.std.specs.List.{sum_by}
 use Rattle.std.proofs.lemmas.List.{take_more}
@@ -16,13 +16,12 @@ use Rattle.plot_geometry.specs.declared.biases.Bias.{Bias}
 use Rattle.admission_log.specs.declared.events.Outcome.{Outcome}
 use Rattle.admission_log.specs.Histories.{History, appended, last_of}
 use Rattle.admission_log.specs.Deliveries.{IsDeliveryTo, outcomes_in}
-use Rattle.tracker_session.specs.declared.replay.Run.{Run}
-use Rattle.tracker_session.specs.declared.screen.Counts.{Counts}
+use Rattle.tracker_session.specs.declared.taking.Run.{Run}
+use Rattle.tracker_session.specs.declared.counts.Counts.{Counts}
 use Rattle.tracker_session.specs.Counting.{is_datagram, is_tick, is_bias, is_delivery, is_tick_taken, is_change, is_admitted, is_unknown, is_early, is_ahead, is_not_plot, others_in, told_of, counted, counts_of, missed, raised, with_told}
-use Rattle.tracker_session.specs.Replay.{HasFault, IsReplayLog, empty_log}
-use Rattle.tracker_session.specs.Steps.{HasTaken, TakesSilently}
+use Rattle.tracker_session.specs.Replay.{HasFault, IsReplayLog}
+use Rattle.tracker_session.specs.Taking.{HasTaken, Takes, TakesSilently}
 use Rattle.tracker_session.proofs.Logs.{DeliveryKinds, Kinds, bit, covered, delivery_kinds}
-use Rattle.tracker_session.proofs.Outputs.{output_silent, nothing_given}
 
 counted_more : (a b : ℕ) → counted (counted a + b) ≡ counted (a + b)
 counted_more a b = omega arith
@@ -112,6 +111,10 @@ module _ (p : Item → Bool) (q : Event → Bool) (items : List Item) (item : It
       let none : bit (q event) ≡ 0 = ap bit e in
       omega (arith, none, events_push event)
 
+-- what was taken silently was taken
+pub silently : (settings : Settings) (item : Item) (old new : Run) → TakesSilently settings item old new → Takes settings item None old new
+silently settings item old new h = record { added = h.added; has = h.has; shown = h.silent }
+
 -- ---- what is passed over
 
 pub malformed_taken : (settings : Settings) (feed : ℕ) (octets : List ℕ) (old new : Run) → HasFault octets → new.log ≡ old.log → new.counts ≡ record old.counts { malformed = counted (old.counts.malformed + 1) } → TakesSilently settings (datagram feed octets) old new
@@ -119,7 +122,7 @@ malformed_taken settings feed octets old new fault log counts =
     record {
       added = None;
       has = record { adds = fault; log = log; counts = grown };
-      gives = nothing_given settings old.log old.log (λ output h. h);
+      silent = refl;
     }
   where
     item : Item
@@ -139,7 +142,7 @@ old_tick_taken settings time old new late log counts =
     record {
       added = None;
       has = record { adds = late; log = log; counts = grown };
-      gives = nothing_given settings old.log old.log (λ output h. h);
+      silent = refl;
     }
   where
     item : Item
@@ -161,7 +164,7 @@ admitted_taken settings feed octets contents event old new is delivery log count
     record {
       added = Some event;
       has = record { adds = (contents, is, delivery); log = log; counts = grown };
-      gives = nothing_given settings old.log (appended old.log event) (λ output h. output_silent settings old.log event output kinds.no_time h);
+      silent = kinds.kinds.tick_taken;
     }
   where
     item : Item
@@ -236,7 +239,7 @@ refused_taken settings radar slot b old new closed log counts =
     record {
       added = None;
       has = record { adds = closed; log = log; counts = grown };
-      gives = nothing_given settings old.log old.log (λ output h. h);
+      silent = refl;
     }
   where
     item : Item
@@ -256,7 +259,7 @@ change_taken settings radar slot b old new is_open log counts =
     record {
       added = Some event;
       has = record { adds = (is_open, refl); log = log; counts = grown };
-      gives = nothing_given settings old.log (appended old.log event) (λ output h. output_silent settings old.log event output refl h);
+      silent = refl;
     }
   where
     item : Item

@@ -11,11 +11,11 @@ use Rattle.price_form.proofs.OnePrefix.{one_fault}
 use Rattle.price_form.proofs.PrefixFaults.{file_or_fault, some_fault}
 use Rattle.recording.proofs.Codes.{bytes_of}
 use Rattle.tracker_session.specs.Checking.{AllProve, Checks, FirstFails, HasFileFault, HasVerdict, IsFile, IsProved, Verdict, certificates_in, proved, fails, fault}
-use Rattle.tracker_session.specs.CheckRuns.{RecordFails}
+use Rattle.tracker_session.specs.Judging.{RecordFails}
 use Rattle.io_traits.specs.Places.{place_limit}
 use Rattle.tracker_session.proofs.Deciding.{record_proves}
 use Rattle.tracker_session.proofs.Inputs.{prefix_bytes}
-use Rattle.tracker_session.proofs.Outcomes.{Alike}
+use Rattle.tracker_session.proofs.Alike.{Alike}
 
 -- files that are one, or both pass the limit and are one before it, have one verdict
 pub checks_alike : (a b : List ℕ) (v : Verdict) → Alike a b → Checks a v → Checks b v

@@ -8,7 +8,7 @@ use Rattle.admission_log.specs.declared.events.Outcome.{Outcome}
 use Rattle.admission_log.specs.declared.events.Outcome.TheVariants as outcomes
 use Rattle.admission_log.specs.Histories.{History}
 use Rattle.admission_log.specs.Deliveries.{outcomes_in}
-use Rattle.tracker_session.specs.declared.screen.Counts.{Counts}
+use Rattle.tracker_session.specs.declared.counts.Counts.{Counts}
 
 -- ---- items
 

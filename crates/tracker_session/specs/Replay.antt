@@ -11,7 +11,7 @@ use Rattle.admission_log.specs.declared.events.Event.TheVariants.{Tick, Bias}
 use Rattle.admission_log.specs.Histories.{History, appended, first, last_of, tick_in}
 use Rattle.admission_log.specs.Changes.{IsOpenChange}
 use Rattle.admission_log.specs.Deliveries.{IsDeliveryTo}
-use Rattle.tracker_session.specs.declared.screen.Counts.{Counts}
+use Rattle.tracker_session.specs.declared.counts.Counts.{Counts}
 use Rattle.tracker_session.specs.Counting.{counts_of}
 use Rattle.tracker_session.specs.Inputs.{IsInput, tells_biases}
 use Rattle.tracker_session.specs.Picture.{IsEdition}

@@ -1,61 +1,65 @@
--- The words of a command line that are a command.
-use Rattle.std.specs.Prelude.{◌≡◌, ◌≢◌, ◌⊎◌, ℕ, List, [], ◌∷◌, ◌++◌, codes, map, string_bytes, String}
+-- The words of a command line, as lines of commands.
+use Rattle.std.specs.Prelude.{◌≡◌, ◌≢◌, ◌==◌, ◌-◌, ◌^◌, ⊤, ℕ, nat_eq, nat_lt, get_or, Option, Some, None, Bool, not, ◌&&◌, length, Result, Ok, Err, List, [], ◌∷◌, codes, map, string_bytes, String, if◌then◌else◌}
+use Rattle.std.specs.List.{starts_with}
+use Rattle.std.specs.Fmt.{decimal}
+use Rattle.std.specs.Str.{bytes_eq}
+use Rattle.std.specs.Str.Parse.{digits_value}
 use Rattle.std.specs.declared.alloc.Global.{Global}
 use Rattle.tracker_session.specs.declared.words.Command.{Command}
-use Rattle.tracker_session.specs.declared.words.Command.TheVariants.{Replay, Check}
+use Rattle.tracker_session.specs.declared.words.Command.TheVariants as commands
+use Rattle.tracker_session.specs.declared.words.WordsError.{WordsError}
+use Rattle.tracker_session.specs.declared.words.WordsError.TheVariants as errors
 
 -- the octets of each word
 abbrev pub texts : List (String Global) → List (List ℕ)
 texts words = map (λ word. string_bytes word) words
 
+-- a command with its words, or other words
+pub data Line : Type 0 where
+  -- the names of settings, input, output and prices, and the number of workers
+  replay : List ℕ → List ℕ → List ℕ → List ℕ → ℕ → Line
+  -- the name of the prices
+  check : List ℕ → Line
+  -- what the scene is drawn from, how many aircraft, for how many seconds, how many late of a hundred plots, and the name of the output
+  scene : ℕ → ℕ → ℕ → ℕ → List ℕ → Line
+  other : Line
+
 -- a name isn't empty and doesn't begin with two dashes
-pub record IsName (word : List ℕ) : Type 0 where
-  pub some : word ≢ []
-  pub plain : (rest : List ℕ) → word ≢ codes "--" ++ rest
+abbrev pub is_name : List ℕ → Bool
+is_name word = not (length word == 0) && not (starts_with nat_eq word (codes "--"))
 
--- the words are `replay` and the names of settings, input, output and prices
-pub record IsReplay (words : List (List ℕ)) (settings input output : List ℕ) : Type 0 where
-  pub prices : List ℕ
-  pub whole : words ≡ codes "replay" ∷ settings ∷ input ∷ output ∷ prices ∷ []
-  pub settings_name : IsName settings
-  pub input_name : IsName input
-  pub output_name : IsName output
-  pub prices_name : IsName prices
+-- neither a sign nor a zero that more octets follow stands first
+pub record IsPlain (word : List ℕ) : Type 0 where
+  pub unsigned : get_or word 0 0 ≢ 43
+  pub short : get_or word 0 0 ≡ 48 → length word ≡ 1
 
-abbrev pub AreReplay : List (List ℕ) → Type 0
-AreReplay words = (settings : List ℕ) × (input : List ℕ) × (output : List ℕ) × IsReplay words settings input output
+-- the number from the first to the last that a word writes in decimal digits, if it writes one
+abbrev pub number_in : ℕ → ℕ → List ℕ → Option ℕ
+number_in first last word =
+    if bytes_eq word (decimal (digits_value 10 word)) && not (nat_lt (digits_value 10 word) first) && not (nat_lt last (digits_value 10 word)) then Some (digits_value 10 word) else None
 
--- the words are `check` and the name of a price file
-pub record IsCheck (words : List (List ℕ)) (prices : List ℕ) : Type 0 where
-  pub whole : words ≡ codes "check" ∷ prices ∷ []
-  pub prices_name : IsName prices
+-- four numbers, and the name of an output
+abbrev pub scene_with : Option ℕ → Option ℕ → Option ℕ → Option ℕ → List ℕ → Line
+scene_with (Some seed) (Some aircraft) (Some seconds) (Some late) output = scene seed aircraft seconds late output
+scene_with _ _ _ _ output = other
 
-abbrev pub AreCheck : List (List ℕ) → Type 0
-AreCheck words = (prices : List ℕ) × IsCheck words prices
+-- `check` and a name; `replay` and four names, for one worker; or `scene` and four numbers, each in its range, and a name
+abbrev pub line_of : List (List ℕ) → Line
+line_of (command ∷ prices ∷ []) = if bytes_eq command (codes "check") && is_name prices then check prices else other
+line_of (command ∷ settings ∷ input ∷ output ∷ prices ∷ []) =
+    if bytes_eq command (codes "replay") && is_name settings && is_name input && is_name output && is_name prices then replay settings input output prices 1 else other
+line_of (command ∷ seed ∷ aircraft ∷ seconds ∷ late ∷ output ∷ []) =
+    if bytes_eq command (codes "scene") && is_name output then scene_with (number_in 0 (2 ^ 64 - 1) seed) (number_in 1 2000 aircraft) (number_in 1 3600 seconds) (number_in 0 100 late) output else other
+line_of words = other
 
--- the words of a command
-abbrev pub AreCommand : List (List ℕ) → Type 0
-AreCommand words = AreReplay words ⊎ AreCheck words
+-- the line of a command
+abbrev pub line_for : Command → Line
+line_for (commands.Replay settings input output prices workers) = replay (string_bytes settings) (string_bytes input) (string_bytes output) (string_bytes prices) workers
+line_for (commands.Check prices) = check (string_bytes prices)
+line_for (commands.Scene seed aircraft seconds late output) = scene seed aircraft seconds late (string_bytes output)
 
--- the words are those of a replay with these names, which has one worker
-pub record IsReplayOf (words : List (List ℕ)) (settings input output prices : List ℕ) (workers : ℕ) : Type 0 where
-  pub replay : IsReplay words settings input output
-  pub prices_are : replay.prices ≡ prices
-  pub one_worker : workers ≡ 1
-
--- the command is a replay of these names, with one worker
-pub record AreNames (settings input output prices settings' input' output' prices' : List ℕ) (workers : ℕ) : Type 0 where
-  pub settings_are : settings' ≡ settings
-  pub input_is : input' ≡ input
-  pub output_is : output' ≡ output
-  pub prices_are : prices' ≡ prices
-  pub one_worker : workers ≡ 1
-
-abbrev pub HasNames : List ℕ → List ℕ → List ℕ → List ℕ → Command → Type 0
-HasNames settings input output prices (Replay settings' input' output' prices' workers) = AreNames settings input output prices (string_bytes settings') (string_bytes input') (string_bytes output') (string_bytes prices') workers
-HasNames settings input output prices (Check prices') = ⊥
-
--- the words are this command's
-abbrev pub IsCommand : List (List ℕ) → Command → Type 0
-IsCommand words (Replay settings input output prices workers) = IsReplayOf words (string_bytes settings) (string_bytes input) (string_bytes output) (string_bytes prices) workers
-IsCommand words (Check prices) = IsCheck words (string_bytes prices)
+-- the command is that of the words; or they are none; or memory is wanting
+abbrev pub Parsed : List (List ℕ) → Result Command WordsError → Type 0
+Parsed words (Ok command) = line_of words ≡ line_for command
+Parsed words (Err errors.Usage) = line_of words ≡ other
+Parsed words (Err errors.NoMemory) = ⊤

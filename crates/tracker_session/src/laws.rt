@@ -1,5 +1,9 @@
 // Laws of the definitions that the top call's clauses cite.
-ghost use Rattle.std.specs.Prelude.{◌≡◌, ◌<◌, ◌-◌, ℕ, List, All, Option, count_by};
+ghost use Rattle.std.specs.Prelude.{◌≡◌, ◌<◌, ◌≤◌, ◌-◌, ℕ, List, All, Option, Some, count_by, length, take};
+ghost use Rattle.io_traits.specs.declared.host.Place.{Place};
+ghost use Rattle.session_script.specs.Scripts.{Binding, End};
+ghost use Rattle.tracker_session.specs.Commands.{CommandGives};
+ghost use Rattle.tracker_session.specs.Words.{Line};
 ghost use Rattle.admission_log.specs.declared.settings.Settings.{Settings};
 ghost use Rattle.recording.specs.declared.header.Header.{Header};
 ghost use Rattle.recording.specs.Items.{Item};
@@ -8,8 +12,9 @@ ghost use Rattle.tracker_session.specs.Inputs.{HasInput, IsInput};
 ghost use Rattle.admission_log.specs.Histories.{History};
 ghost use Rattle.tracker_session.specs.Counting.{is_datagram, is_delivery};
 ghost use Rattle.tracker_session.specs.Faulty.{HaveFaults};
+ghost use Rattle.tracker_session.specs.ReplayGives.{ReplaysPartly};
 ghost use Rattle.tracker_session.specs.Replay.{HasReplay, IsReplayLog, Replays};
-ghost use Rattle.tracker_session.specs.declared.screen.Counts.{Counts};
+ghost use Rattle.tracker_session.specs.declared.counts.Counts.{Counts};
 
 /// An input has exactly one reading, whether or not it passes the limit.
 pub fn one_input()
@@ -23,6 +28,11 @@ pub fn one_replay()
     ensures one { (settings : Settings) (octets a b : List ℕ) (c d : Counts) (f g : Option ℕ) → Replays settings octets a c f → Replays settings octets b d g → (a ≡ b) × (c ≡ d) × (f ≡ g) }
 {}
 
+/// What was written where a replay broke off is a prefix of its output.
+pub fn front_of_replay()
+    ensures { (settings : Settings) (octets part output : List ℕ) (counts : Counts) (fault : Option ℕ) → ReplaysPartly settings octets part → Replays settings octets output counts fault → (n : ℕ) × (n ≤ length output) × (part ≡ take n output) }
+{}
+
 /// The datagrams of a replay that aren't in its log, which are counted as malformed, are those with a fault.
 pub fn malformed_datagrams()
     ensures { (settings : Settings) (start : ℕ) (items : List Item) (log : History) → IsReplayLog settings start items log → HaveFaults items (count_by is_datagram items - count_by is_delivery log.events) }
@@ -32,4 +42,9 @@ pub fn malformed_datagrams()
 pub fn one_check()
     ensures some { (octets : List ℕ) → All (λ octet. octet < 256) octets → HasVerdict octets }
     ensures one { (octets : List ℕ) (v w : Verdict) → Checks octets v → Checks octets w → v ≡ w }
+{}
+
+/// On what the places hold a line of words has one end, binds the same places, and Output gets one thing.
+pub fn one_end()
+    ensures { (line : Line) (held : Place → List ℕ) (bound bound' : List Binding) (gets gets' : Place → List ℕ) (end end' : End) → CommandGives line (λ p octets. octets ≡ held p) bound gets (Some end) → CommandGives line (λ p octets. octets ≡ held p) bound' gets' (Some end') → (end ≡ end') × (bound ≡ bound') × (gets Place.Output ≡ gets' Place.Output) }
 {}

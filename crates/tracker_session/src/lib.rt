@@ -2,19 +2,17 @@
 #![tactic(auto)]
 
 mod batch;
-mod checking;
+mod commands;
+mod counts;
+mod input;
 mod laws;
 mod picture;
-mod reading;
-mod replay;
-mod screen;
-mod status;
-mod tally;
+mod taking;
 mod words;
 
 pub use batch::run_batch;
-pub use laws::{malformed_datagrams, one_check, one_input, one_replay};
-pub use status::{Spot, Status};
+pub use laws::{front_of_replay, malformed_datagrams, one_check, one_end, one_input, one_replay};
+pub use session_script::{Spot, Status};
 pub use words::{Command, WordsError, parse_words};
 
 #[cfg(test)]

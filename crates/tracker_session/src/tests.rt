@@ -1,14 +1,37 @@
+// Runs of the program over a host in memory: one table a file, gone over by one loop.
+ghost use Rattle.std.specs.Prelude.{◌≡◌, None, IfOk};
+ghost use Rattle.io_traits.specs.MemHost.{state_of};
+ghost use Rattle.io_traits.specs.declared.host.Place.{Place};
+
 mod checks;
 mod faults;
-mod inputs;
+mod replays;
+mod scenes;
 mod words;
 
 use crate::{Status, run_batch};
-use io_traits::{MemHost, Place};
+use io_traits::{Host, MemHost, Place, Way};
 use std::alloc::Global;
 use std::process::Abort;
 use std::test::Fail;
 use std::thread::Threads;
+
+/// A run: its words, what its places hold, how many octets Output and Screen take, and which calls fail;
+/// and what comes of it.
+#[derive(Clone, Copy)]
+struct Run<'a> {
+    words: &'a [&'a str],
+    settings: &'a [u8],
+    input: &'a [u8],
+    prices: &'a [u8],
+    room: [usize; 2],
+    fails: &'a [u64],
+    status: Status,
+    output: &'a [u8],
+    screen: &'a str,
+    /// What Settings, Input, Output and Prices are bound to.
+    bound: [Option<(Way, &'a str)>; 4],
+}
 
 /// The settings of one system and one radar.
 const SETTINGS: &[u8] =
@@ -28,9 +51,21 @@ const PICTURE: [u8; 19] = [
     0x00, 0x01, 0x80,
 ];
 
-const USAGE: &str = "usage: tracker replay, check, scene, exercise or serve\n";
+/// The words of a replay, and what its places are bound to: none, Settings, Input too, and all.
+const REPLAY: [&str; 5] = ["replay", "a", "b", "c", "d"];
 
-const WORDS: [&str; 5] = ["replay", "a", "b", "c", "d"];
+const NONE: [Option<(Way, &str)>; 4] = [None, None, None, None];
+
+const FIRST: [Option<(Way, &str)>; 4] = [Some((Way::Read, "a")), None, None, None];
+
+const BOTH: [Option<(Way, &str)>; 4] = [Some((Way::Read, "a")), Some((Way::Read, "b")), None, None];
+
+const ALL: [Option<(Way, &str)>; 4] = [
+    Some((Way::Read, "a")),
+    Some((Way::Read, "b")),
+    Some((Way::Write, "c")),
+    None,
+];
 
 fn words_of(alloc: Global, texts: &[&str]) -> Result<Vec<String>, Fail> {
     let mut words = Vec::new(alloc);
@@ -40,41 +75,81 @@ fn words_of(alloc: Global, texts: &[&str]) -> Result<Vec<String>, Fail> {
     Ok(words)
 }
 
-/// Runs the words over a host with these settings and this input, room for so many octets of output
-/// and of screen, and these calls that fail.
-fn run<R: Threads + Sync>(
+// Carries the words out over any host.
+fn carry_out<R: Threads + Sync, H: Host>(
     rt: &R,
     alloc: Global,
     texts: &[&str],
-    settings: &[u8],
-    input: &[u8],
-    room: [usize; 2],
-    fails: &[u64],
-) -> Result<(Status, MemHost), Fail> {
+    host: &mut H,
+) -> Result<Status, Fail>
+    requires { (p : Place) → (H.state host.old).bound p ≡ None }
+{
     let words = words_of(alloc, texts)?;
-    let left = vec![in alloc;
-        (Place::Settings, Vec::from_slice(alloc, settings)?),
-        (Place::Input, Vec::from_slice(alloc, input)?),
-    ]?;
-    let rooms = vec![in alloc; (Place::Output, room[0]), (Place::Screen, room[1])]?;
-    let mut host = MemHost::new(alloc, left, rooms, Vec::from_slice(alloc, fails)?)?;
-    let status = run_batch(rt, alloc, &words, &mut host);
-    Ok((status, host))
+    Ok(run_batch(rt, alloc, &words, host))
 }
 
-/// Replays the input under these settings, and compares the answer, what Output got, and what Screen got.
+// The host of a run.
+fn host_of(alloc: Global, run: &Run<'_>) -> Result<MemHost, Fail>
+    ensures { IfOk result (λ host. (p : Place) → (state_of host).bound p ≡ None) }
+{
+    let left = vec![in alloc;
+        (Place::Settings, Vec::from_slice(alloc, run.settings)?),
+        (Place::Input, Vec::from_slice(alloc, run.input)?),
+        (Place::Prices, Vec::from_slice(alloc, run.prices)?),
+    ]?;
+    let rooms = vec![in alloc; (Place::Output, run.room[0]), (Place::Screen, run.room[1])]?;
+    Ok(MemHost::new(alloc, left, rooms, Vec::from_slice(alloc, run.fails)?)?)
+}
+
+// Compares what the places got, and what they are bound to.
+fn compare_places(rt: &impl Abort, run: &Run<'_>, host: &MemHost, row: usize) {
+    let [settings, input, output, prices] = run.bound;
+    assert_eq!(rt; host.got(Place::Output), run.output, "at {row}");
+    assert_eq!(rt; host.got(Place::Screen), run.screen.as_bytes(), "at {row}");
+    assert_eq!(rt; host.bound(Place::Settings), settings, "at {row}");
+    assert_eq!(rt; host.bound(Place::Input), input, "at {row}");
+    assert_eq!(rt; host.bound(Place::Output), output, "at {row}");
+    assert_eq!(rt; host.bound(Place::Prices), prices, "at {row}");
+}
+
+// Carries out a run, and compares what came of it.
+fn compare_one(
+    rt: &(impl Abort + Threads + Sync),
+    alloc: Global,
+    run: &Run<'_>,
+    row: usize,
+) -> Result<(), Fail> {
+    let mut host = host_of(alloc, run)?;
+    let status = carry_out(rt, alloc, run.words, &mut host)?;
+    assert_eq!(rt; status, run.status, "at {row}");
+    compare_places(rt, run, &host, row);
+    Ok(())
+}
+
+/// Carries out each run, and compares what came of it.
 fn compare(
     rt: &(impl Abort + Threads + Sync),
     alloc: Global,
-    given: (&[u8], &[u8], &[u64]),
-    status: Status,
-    output: &[u8],
-    screen: &str,
+    runs: &[Run<'_>],
 ) -> Result<(), Fail> {
-    let (settings, input, fails) = given;
-    let (answer, host) = run(rt, alloc, &WORDS, settings, input, [1000, 1000], fails)?;
-    assert_eq!(rt; answer, status);
-    assert_eq!(rt; host.got(Place::Output), output);
-    assert_eq!(rt; host.got(Place::Screen), screen.as_bytes());
+    for (row, run) in runs.iter().enumerate() {
+        compare_one(rt, alloc, run, row)?;
+    }
     Ok(())
+}
+
+// A replay of this input that is done.
+fn done<'a>(input: &'a [u8], output: &'a [u8], screen: &'a str) -> Run<'a> {
+    Run {
+        words: &REPLAY,
+        settings: SETTINGS,
+        input,
+        prices: &[],
+        room: [1000, 1000],
+        fails: &[],
+        status: Status::Done,
+        output,
+        screen,
+        bound: ALL,
+    }
 }

@@ -1,8 +1,9 @@
 // The words of the command line.
-ghost use Rattle.std.specs.Prelude.{◌∷◌, [], IfOk, IfSome, IsErrOf, IsTrue};
-ghost use Rattle.tracker_session.specs.Words.{AreCommand, HasNames, IsCommand, IsName, texts};
+ghost use Rattle.std.specs.Prelude.{◌≡◌, ◌≢◌, ◌<◌, ◌≤◌, ◌^◌, ◌↔◌, ◌∷◌, [], ℕ, IfSome, IsNone, IsTrue};
+ghost use Rattle.std.specs.Fmt.{decimal};
+ghost use Rattle.tracker_session.specs.Words.{IsPlain, Parsed, is_name, number_in, texts};
 
-use std::alloc::Global;
+use std::alloc::{AllocError, Global};
 
 /// A command, by its words.
 #[derive(Debug, PartialEq, Eq, Drop)]
@@ -20,6 +21,19 @@ pub enum Command {
         /// How many workers share the work, from 1 to 16.
         workers: u8,
     },
+    /// `scene SEED AIRCRAFT SECONDS LATE OUTPUT`: writes the recording of a scene.
+    Scene {
+        /// What the scene is drawn from.
+        seed: u64,
+        /// How many aircraft fly, from 1 to 2,000.
+        aircraft: u16,
+        /// For how many seconds they are seen, from 1 to 3,600.
+        seconds: u16,
+        /// How many of a hundred plots come late.
+        late: u8,
+        /// The name of the output, the recording.
+        output: String,
+    },
     /// `check PRICES`: judges the certificates of a price file.
     Check {
         /// The name of the prices.
@@ -36,20 +50,23 @@ pub enum WordsError {
     NoMemory,
 }
 
-fn is_name(word: &str) -> bool
-    ensures yes { IsTrue result → IsName word.now }
-    ensures no { IsName word.now → IsTrue result }
-{
-    !matches!(word.as_bytes(), [] | [b'-', b'-', ..])
+impl From<AllocError> for WordsError {
+    ghost use Rattle.tracker_session.specs.declared.words.WordsError.TheVariants.{NoMemory};
+
+    ghost from_gives = { λ _ e. e ≡ NoMemory };
+
+    fn from(_error: AllocError) -> WordsError {
+        WordsError::NoMemory
+    }
 }
 
-/// The command that the words are: `replay` and four names, or `check` and one. A name isn't empty and
-/// doesn't begin with two dashes.
+/// The command that the words are: `replay` and four names; `check` and one; or `scene`, four numbers and a
+/// name. A name isn't empty and doesn't begin with two dashes. A number has decimal digits alone, without a
+/// leading zero.
 ///
 /// `Usage` comes exactly for other words.
 pub fn parse_words(alloc: Global, words: &[String]) -> Result<Command, WordsError>
-    ensures command { IfOk result (λ command. IsCommand (texts words.now) command) }
-    ensures usage { IsErrOf result WordsError.Usage → AreCommand (texts words.now) → ⊥ }
+    ensures { Parsed (texts words.now) result }
 {
     match words {
         [command, prices] => parse_check(alloc, command.as_str(), prices.as_str()),
@@ -61,22 +78,35 @@ pub fn parse_words(alloc: Global, words: &[String]) -> Result<Command, WordsErro
             output.as_str(),
             prices.as_str(),
         ),
+        [command, seed, aircraft, seconds, late, output] => parse_scene(
+            alloc,
+            command.as_str(),
+            seed.as_str(),
+            aircraft.as_str(),
+            seconds.as_str(),
+            late.as_str(),
+            output.as_str(),
+        ),
         _ => Err(WordsError::Usage),
     }
 }
 
+// Whether a word is a name.
+fn is_name(word: &str) -> bool
+    ensures { result ≡ is_name word.now }
+{
+    !word.is_empty() && !word.as_bytes().starts_with(b"--")
+}
+
 // The command of two words.
 fn parse_check(alloc: Global, command: &str, prices: &str) -> Result<Command, WordsError>
-    ensures command { IfOk result (λ it. IsCommand (command.now ∷ prices.now ∷ []) it) }
-    ensures usage { IsErrOf result WordsError.Usage → AreCommand (command.now ∷ prices.now ∷ []) → ⊥ }
+    ensures { Parsed (command.now ∷ prices.now ∷ []) result }
 {
     if command != "check" || !is_name(prices) {
         return Err(WordsError::Usage);
     }
-    match String::from_str(alloc, prices) {
-        Ok(prices) => Ok(Command::Check { prices }),
-        Err(_) => Err(WordsError::NoMemory),
-    }
+    let prices = String::from_str(alloc, prices)?;
+    Ok(Command::Check { prices })
 }
 
 // The command of five words.
@@ -88,51 +118,96 @@ fn parse_replay(
     output: &str,
     prices: &str,
 ) -> Result<Command, WordsError>
-    ensures command { IfOk result (λ it. IsCommand (command.now ∷ settings.now ∷ input.now ∷ output.now ∷ prices.now ∷ []) it) }
-    ensures usage { IsErrOf result WordsError.Usage → AreCommand (command.now ∷ settings.now ∷ input.now ∷ output.now ∷ prices.now ∷ []) → ⊥ }
+    ensures { Parsed (command.now ∷ settings.now ∷ input.now ∷ output.now ∷ prices.now ∷ []) result }
 {
-    if command == "replay"
-        && is_name(settings)
-        && is_name(input)
-        && is_name(output)
-        && is_name(prices)
+    if command != "replay"
+        || !is_name(settings)
+        || !is_name(input)
+        || !is_name(output)
+        || !is_name(prices)
     {
-        match replay_of(alloc, settings, input, output, prices) {
-            Some(command) => Ok(command),
-            None => Err(WordsError::NoMemory),
-        }
-    } else {
-        Err(WordsError::Usage)
+        return Err(WordsError::Usage);
     }
-}
-
-// The replay with these names, or none where memory is wanting.
-fn replay_of(
-    alloc: Global,
-    settings: &str,
-    input: &str,
-    output: &str,
-    prices: &str,
-) -> Option<Command>
-    ensures { IfSome result (λ it. HasNames settings.now input.now output.now prices.now it) }
-{
-    let Ok(settings) = String::from_str(alloc, settings) else {
-        return None;
-    };
-    let Ok(input) = String::from_str(alloc, input) else {
-        return None;
-    };
-    let Ok(output) = String::from_str(alloc, output) else {
-        return None;
-    };
-    let Ok(prices) = String::from_str(alloc, prices) else {
-        return None;
-    };
-    Some(Command::Replay {
+    let settings = String::from_str(alloc, settings)?;
+    let input = String::from_str(alloc, input)?;
+    let output = String::from_str(alloc, output)?;
+    let prices = String::from_str(alloc, prices)?;
+    Ok(Command::Replay {
         settings,
         input,
         output,
         prices,
         workers: 1,
     })
+}
+
+// The command of six words.
+fn parse_scene(
+    alloc: Global,
+    command: &str,
+    seed: &str,
+    aircraft: &str,
+    seconds: &str,
+    late: &str,
+    output: &str,
+) -> Result<Command, WordsError>
+    ensures { Parsed (command.now ∷ seed.now ∷ aircraft.now ∷ seconds.now ∷ late.now ∷ output.now ∷ []) result }
+{
+    if command != "scene" || !is_name(output) {
+        return Err(WordsError::Usage);
+    }
+    let Some(seed) = number_in(0, u64::MAX, seed) else {
+        return Err(WordsError::Usage);
+    };
+    let Some(aircraft) = number_in(1, 2000, aircraft) else {
+        return Err(WordsError::Usage);
+    };
+    let Some(seconds) = number_in(1, 3600, seconds) else {
+        return Err(WordsError::Usage);
+    };
+    let Some(late) = number_in(0, 100, late) else {
+        return Err(WordsError::Usage);
+    };
+    let output = String::from_str(alloc, output)?;
+    Ok(Command::Scene {
+        seed,
+        aircraft: aircraft as u16,
+        seconds: seconds as u16,
+        late: late as u8,
+        output,
+    })
+}
+
+// Whether a word begins neither with a sign nor with a zero that more octets follow.
+fn is_plain(octets: &[u8]) -> bool
+    ensures { IsTrue result ↔ IsPlain octets.now }
+{
+    !matches!(octets, [b'+', ..] | [b'0', _, ..])
+}
+
+// The number that a word writes in decimal digits, without a leading zero.
+fn read_number(word: &str) -> Option<u64>
+    ensures told { IfSome result (λ n. word.now ≡ decimal n) }
+    ensures fits { IfSome result (λ n. n < 2 ^ 64) }
+    ensures refused { IsNone result → (n : ℕ) → n < 2 ^ 64 → word.now ≢ decimal n }
+{
+    if is_plain(word.as_bytes()) {
+        word.parse::<u64>().ok()
+    } else {
+        None
+    }
+}
+
+// .. where it lies in a range.
+fn number_in(first: u64, last: u64, word: &str) -> Option<u64>
+    ensures number { result ≡ number_in first last word.now }
+    ensures within { IfSome result (λ n. n ≤ last) }
+{
+    let Some(number) = read_number(word) else {
+        return None;
+    };
+    if first <= number && number <= last {
+        return Some(number);
+    }
+    None
 }

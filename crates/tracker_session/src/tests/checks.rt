@@ -1,9 +1,7 @@
-use crate::{Spot, Status, run_batch};
-use io_traits::{MemHost, Place, Way};
-use std::alloc::Global;
-use std::process::Abort;
+use super::{Run, compare};
+use crate::{Spot, Status};
+use io_traits::Way;
 use std::test::Fail;
-use std::thread::Threads;
 
 /// A price file of one edition and one certificate: a plot that no track gates, and its price.
 const ONE_CERTIFICATE: [u8; 63] = [
@@ -14,102 +12,98 @@ const ONE_CERTIFICATE: [u8; 63] = [
     0, 0, 0, 0, 0, 0, 0x10, 0x01,
 ];
 
+/// What Prices is bound to.
+const CHECKED: [Option<(Way, &str)>; 4] = [None, None, None, Some((Way::Read, "p"))];
+
 const PROVED: &str = "certificates 1 proved\n";
 
-/// Checks a price file over a host with room for so many octets of screen and these calls that fail,
-/// and compares the answer and what Screen got.
-fn compare_check(
-    rt: &(impl Abort + Threads + Sync),
-    alloc: Global,
-    given: (&[u8], usize, &[u64]),
+// A check of a price file, with so many octets of screen.
+fn checked<'a>(
+    prices: &'a [u8],
+    room: usize,
+    fails: &'a [u64],
     status: Status,
-    screen: &str,
-) -> Result<(), Fail> {
-    let (prices, room, fails) = given;
-    let words = vec![in alloc;
-        String::from_str(alloc, "check")?,
-        String::from_str(alloc, "p")?,
-    ]?;
-    let left = vec![in alloc; (Place::Prices, Vec::from_slice(alloc, prices)?)]?;
-    let rooms = vec![in alloc; (Place::Screen, room)]?;
-    let mut host = MemHost::new(alloc, left, rooms, Vec::from_slice(alloc, fails)?)?;
-    let answer = run_batch(rt, alloc, &words, &mut host);
-    assert_eq!(rt; answer, status);
-    assert_eq!(rt; host.got(Place::Screen), screen.as_bytes());
-    assert_eq!(rt; host.bound(Place::Prices), Some((Way::Read, "p")));
-    assert_eq!(rt; host.bound(Place::Settings), None);
-    assert_eq!(rt; host.bound(Place::Input), None);
-    assert_eq!(rt; host.bound(Place::Output), None);
-    Ok(())
+    screen: &'a str,
+) -> Run<'a> {
+    Run {
+        words: &["check", "p"],
+        settings: &[],
+        input: &[],
+        prices,
+        room: [0, room],
+        fails,
+        status,
+        output: &[],
+        screen,
+        bound: CHECKED,
+    }
 }
 
+/// Where the price of the plot is one more than its pairing costs, the first such certificate is told: the only one, and
+/// the second of three. The fault of a file is told before any of them.
 #[test]
-fn a_certificate_proves(rt: HostRuntime) -> Result<(), Fail> {
-    let alloc = rt.alloc();
-    let given: (&[u8], usize, &[u64]) = (&ONE_CERTIFICATE, 1000, &[]);
-    compare_check(&rt, alloc, given, Status::Done, PROVED)?;
-    let given: (&[u8], usize, &[u64]) = (&ONE_CERTIFICATE[..4], 1000, &[]);
-    compare_check(&rt, alloc, given, Status::Done, "certificates 0 proved\n")
-}
-
-/// The price of the plot is one more than its pairing costs, in the second of three certificates and in the third.
-#[test]
-fn the_first_that_fails_is_told(rt: HostRuntime) -> Result<(), Fail> {
+fn verdicts(rt: HostRuntime) -> Result<(), Fail> {
     let alloc = rt.alloc();
     let mut other = ONE_CERTIFICATE;
     other[62] = 2;
-    let screen = "not proved: certificate 0 at offset 21\n";
-    let status = Status::NotProved {
-        index: 0,
-        offset: 21,
-    };
-    assert_eq!(rt; status.code(), 8);
-    let given: (&[u8], usize, &[u64]) = (&other, 1000, &[]);
-    compare_check(&rt, alloc, given, status, screen)?;
     let mut three = Vec::from_slice(alloc, &ONE_CERTIFICATE)?;
     three.extend_from_slice(&other[4..])?;
     three.extend_from_slice(&other[21..])?;
-    let screen = "not proved: certificate 1 at offset 80\n";
-    let status = Status::NotProved {
+    let mut longer = Vec::from_slice(alloc, &other)?;
+    longer.push(3)?;
+    let only = Status::NotProved {
+        index: 0,
+        offset: 21,
+    };
+    let second = Status::NotProved {
         index: 1,
         offset: 80,
     };
-    let given: (&[u8], usize, &[u64]) = (&three, 1000, &[]);
-    compare_check(&rt, alloc, given, status, screen)
-}
-
-/// The fault of a file is told before any certificate that doesn't prove.
-#[test]
-fn a_fault_of_the_file_is_told(rt: HostRuntime) -> Result<(), Fail> {
-    let alloc = rt.alloc();
-    let mut other = ONE_CERTIFICATE;
-    other[62] = 2;
-    let mut longer = Vec::from_slice(alloc, &other)?;
-    longer.push(3)?;
-    let rows: [(&[u8], usize, &str); 3] = [
-        (&[], 0, "input: offset 0\n"),
-        (&ONE_CERTIFICATE[..62], 21, "input: offset 21\n"),
-        (&longer, 63, "input: offset 63\n"),
+    let empty = Status::Input { offset: 0 };
+    let cut = Status::Input { offset: 21 };
+    let end = Status::Input { offset: 63 };
+    let runs = [
+        checked(&ONE_CERTIFICATE, 1000, &[], Status::Done, PROVED),
+        checked(
+            &ONE_CERTIFICATE[..4],
+            1000,
+            &[],
+            Status::Done,
+            "certificates 0 proved\n",
+        ),
+        checked(
+            &other,
+            1000,
+            &[],
+            only,
+            "not proved: certificate 0 at offset 21\n",
+        ),
+        checked(
+            &three,
+            1000,
+            &[],
+            second,
+            "not proved: certificate 1 at offset 80\n",
+        ),
+        checked(&[], 1000, &[], empty, "input: offset 0\n"),
+        checked(&ONE_CERTIFICATE[..62], 1000, &[], cut, "input: offset 21\n"),
+        checked(&longer, 1000, &[], end, "input: offset 63\n"),
     ];
-    for (prices, offset, screen) in rows {
-        let given: (&[u8], usize, &[u64]) = (prices, 1000, &[]);
-        compare_check(&rt, alloc, given, Status::Input { offset }, screen)?;
-    }
-    Ok(())
+    assert_eq!(rt; only.code(), 8);
+    compare(&rt, alloc, &runs)
 }
 
 /// The calls are the binding of Prices, a read of all of it and one at its end, and one write to Screen.
 #[test]
-fn faults_of_a_check_are_told(rt: HostRuntime) -> Result<(), Fail> {
-    let alloc = rt.alloc();
+fn faults_of_a_check(rt: HostRuntime) -> Result<(), Fail> {
     let prices = Status::Read(Spot::Prices);
     let screen = Status::Write(Spot::Screen);
-    for call in [0, 1, 2] {
-        let given: (&[u8], usize, &[u64]) = (&ONE_CERTIFICATE, 1000, &[call]);
-        compare_check(&rt, alloc, given, prices, "read: Prices\n")?;
-    }
-    let given: (&[u8], usize, &[u64]) = (&ONE_CERTIFICATE, 1000, &[3]);
-    compare_check(&rt, alloc, given, screen, "write: Screen\n")?;
-    let given: (&[u8], usize, &[u64]) = (&ONE_CERTIFICATE, 13, &[]);
-    compare_check(&rt, alloc, given, screen, "certificates ")
+    let runs = [
+        checked(&ONE_CERTIFICATE, 1000, &[0], prices, "read: Prices\n"),
+        checked(&ONE_CERTIFICATE, 1000, &[1], prices, "read: Prices\n"),
+        checked(&ONE_CERTIFICATE, 1000, &[2], prices, "read: Prices\n"),
+        checked(&ONE_CERTIFICATE, 1000, &[3], screen, "write: Screen\n"),
+        checked(&ONE_CERTIFICATE, 13, &[], screen, "certificates "),
+    ];
+    compare(&rt, rt.alloc(), &runs)
 }

@@ -1,110 +1,151 @@
-use super::{ONE_PLOT, PICTURE, SETTINGS, WORDS, compare, run};
+use super::{ALL, BOTH, FIRST, ONE_PLOT, PICTURE, REPLAY, Run, SETTINGS, compare};
 use crate::{Spot, Status};
-use io_traits::Place;
+use io_traits::Way;
 use settings_text::{KeyPath, SettingsFault};
 use std::test::Fail;
 
-/// A document of three, and the fault that it has.
+const LINE: &str =
+    "editions 1 admitted 1 unknown 0 early 0 ahead 0 notplots 0 malformed 0 other 0 old 0\n";
+
+const NO_SERVICE: &[u8] =
+    b"[system]\nsac = 1\nsic = 99\n[[radar]]\nsac = 1\nsic = 1\nx = 0\ny = 0\nrange_sigma = 50\nazimuth_sigma = 12\n";
+
+const MANY_HITS: &[u8] =
+    b"[system]\nsac = 1\nsic = 99\nservice = 1\nhits = 9\n[[radar]]\nsac = 1\nsic = 1\nx = 0\ny = 0\nrange_sigma = 50\nazimuth_sigma = 12\n";
+
+const TWICE: &[u8] =
+    b"[system]\nsac = 1\nsic = 99\nservice = 1\n[[radar]]\nsac = 1\nsic = 1\nx = 0\ny = 0\nrange_sigma = 50\nazimuth_sigma = 12\n[[radar]]\nsac = 1\nsic = 1\nx = 0\ny = 0\nrange_sigma = 50\nazimuth_sigma = 12\n";
+
+// A replay under these settings that ends with their fault, at which these calls fail.
+fn refused<'a>(
+    settings: &'a [u8],
+    fault: SettingsFault,
+    fails: &'a [u64],
+    screen: &'a str,
+) -> Run<'a> {
+    Run {
+        words: &REPLAY,
+        settings,
+        input: &ONE_PLOT,
+        prices: &[],
+        room: [1000, 1000],
+        fails,
+        status: Status::Settings(fault),
+        output: &[],
+        screen,
+        bound: FIRST,
+    }
+}
+
+/// A fault of each kind is told, and then Input and Output are left alone. A text that can't be written leaves the status.
 #[test]
 fn settings_faults(rt: HostRuntime) -> Result<(), Fail> {
-    let system = b"[system]\nsac = 1\nsic = 99\n";
-    let radar =
-        b"[[radar]]\nsac = 1\nsic = 1\nx = 0\ny = 0\nrange_sigma = 50\nazimuth_sigma = 12\n";
-    let alloc = rt.alloc();
-    let rows: [(&[u8], usize, SettingsFault, &str); 3] = [
-        (
-            b"",
-            1,
-            SettingsFault::Missing(KeyPath {
-                radar: None,
-                key: 3,
-            }),
-            "settings: missing key 3\n",
-        ),
-        (
-            b"service = 1\nhits = 9\n",
-            1,
-            SettingsFault::Range(KeyPath {
-                radar: None,
-                key: 5,
-            }),
-            "settings: range of key 5\n",
-        ),
-        (
-            b"service = 1\n",
-            2,
-            SettingsFault::Duplicate { radar: 1, first: 0 },
-            "settings: radar 1 repeats radar 0\n",
-        ),
+    let service = SettingsFault::Missing(KeyPath {
+        radar: None,
+        key: 3,
+    });
+    let hits = SettingsFault::Range(KeyPath {
+        radar: None,
+        key: 5,
+    });
+    let twice = SettingsFault::Duplicate { radar: 1, first: 0 };
+    let runs = [
+        refused(NO_SERVICE, service, &[], "settings: missing key 3\n"),
+        refused(MANY_HITS, hits, &[], "settings: range of key 5\n"),
+        refused(TWICE, twice, &[], "settings: radar 1 repeats radar 0\n"),
+        refused(b"system", SettingsFault::Syntax, &[3], ""),
     ];
-    for (more, radars, fault, screen) in rows {
-        let mut settings = Vec::from_slice(alloc, system)?;
-        settings.extend_from_slice(more)?;
-        for _ in 0..radars {
-            settings.extend_from_slice(radar)?;
-        }
-        let given: (&[u8], &[u8], &[u64]) = (&settings, &ONE_PLOT, &[]);
-        compare(&rt, alloc, given, Status::Settings(fault), &[], screen)?;
+    compare(&rt, rt.alloc(), &runs)
+}
+
+// A replay of the plot that breaks off where these calls fail.
+fn broken<'a>(
+    fails: &'a [u64],
+    status: Status,
+    screen: &'a str,
+    bound: [Option<(Way, &'a str)>; 4],
+) -> Run<'a> {
+    Run {
+        words: &REPLAY,
+        settings: SETTINGS,
+        input: &ONE_PLOT,
+        prices: &[],
+        room: [1000, 1000],
+        fails,
+        status,
+        output: &[],
+        screen,
+        bound,
     }
-    Ok(())
 }
 
 /// The calls are the binding of Settings, a read of all of it and one at its end, the same of Input, the
-/// binding of Output, and one write to Output and to Screen.
+/// binding of Output, and one write to Output and to Screen. In the last run the text isn't written either.
 #[test]
-fn faults_are_told(rt: HostRuntime) -> Result<(), Fail> {
-    let settings = (Status::Read(Spot::Settings), "read: Settings\n");
-    let input = (Status::Read(Spot::Input), "read: Input\n");
-    let output = (Status::Write(Spot::Output), "write: Output\n");
-    let calls = [
-        (0, settings),
-        (1, settings),
-        (2, settings),
-        (3, input),
-        (4, input),
-        (5, input),
-        (6, output),
-        (7, output),
+fn faults_of_places(rt: HostRuntime) -> Result<(), Fail> {
+    let settings = Status::Read(Spot::Settings);
+    let input = Status::Read(Spot::Input);
+    let output = Status::Write(Spot::Output);
+    let runs = [
+        broken(&[0], settings, "read: Settings\n", FIRST),
+        broken(&[1], settings, "read: Settings\n", FIRST),
+        broken(&[2], settings, "read: Settings\n", FIRST),
+        broken(&[3], input, "read: Input\n", BOTH),
+        broken(&[4], input, "read: Input\n", BOTH),
+        broken(&[5], input, "read: Input\n", BOTH),
+        broken(&[6], output, "write: Output\n", ALL),
+        broken(&[7], output, "write: Output\n", ALL),
+        broken(&[4, 5], input, "", BOTH),
     ];
-    for (call, (status, screen)) in calls {
-        let given: (&[u8], &[u8], &[u64]) = (SETTINGS, &ONE_PLOT, &[call]);
-        compare(&rt, rt.alloc(), given, status, &[], screen)?;
+    compare(&rt, rt.alloc(), &runs)
+}
+
+// A replay of these octets, with so much room.
+fn replayed<'a>(
+    input: &'a [u8],
+    room: [usize; 2],
+    fails: &'a [u64],
+    status: Status,
+    output: &'a [u8],
+    screen: &'a str,
+) -> Run<'a> {
+    Run {
+        words: &REPLAY,
+        settings: SETTINGS,
+        input,
+        prices: &[],
+        room,
+        fails,
+        status,
+        output,
+        screen,
+        bound: ALL,
     }
-    let given: (&[u8], &[u8], &[u64]) = (SETTINGS, &ONE_PLOT, &[8]);
+}
+
+/// A truncated input, told and not told; a screen that fails; and a write that takes the prefix that there is
+/// room for, after which the next fails.
+#[test]
+fn ends_of_writing(rt: HostRuntime) -> Result<(), Fail> {
+    let output = Status::Write(Spot::Output);
     let screen = Status::Write(Spot::Screen);
-    compare(&rt, rt.alloc(), given, screen, &PICTURE, "write: Screen\n")
-}
-
-/// The text of a fault of the input, of a fault of the settings, and of an input that can't be read.
-#[test]
-fn a_text_that_cant_be_written_leaves_the_status(rt: HostRuntime) -> Result<(), Fail> {
-    let alloc = rt.alloc();
-    let given: (&[u8], &[u8], &[u64]) = (SETTINGS, &ONE_PLOT[..32], &[7]);
-    compare(&rt, alloc, given, Status::Input { offset: 27 }, &[], "")?;
-    let given: (&[u8], &[u8], &[u64]) = (b"system", &ONE_PLOT, &[3]);
-    let status = Status::Settings(SettingsFault::Syntax);
-    compare(&rt, alloc, given, status, &[], "")?;
-    let given: (&[u8], &[u8], &[u64]) = (SETTINGS, &ONE_PLOT, &[4, 5]);
-    compare(&rt, alloc, given, Status::Read(Spot::Input), &[], "")
-}
-
-/// A write takes the prefix that there is room for, and the next fails.
-#[test]
-fn writing_breaks_off(rt: HostRuntime) -> Result<(), Fail> {
-    let (answer, host) = run(
-        &rt,
-        rt.alloc(),
-        &WORDS,
-        SETTINGS,
-        &ONE_PLOT,
-        [10, 1000],
-        &[],
-    )?;
-    assert_eq!(rt; answer, Status::Write(Spot::Output));
-    assert_eq!(rt; host.got(Place::Output), &PICTURE[..10]);
-    assert_eq!(rt; host.got(Place::Screen), "write: Output\n".as_bytes());
-    let (answer, host) = run(&rt, rt.alloc(), &WORDS, SETTINGS, &ONE_PLOT, [1000, 9], &[])?;
-    assert_eq!(rt; answer, Status::Write(Spot::Screen));
-    assert_eq!(rt; host.got(Place::Screen), "editions ".as_bytes());
-    Ok(())
+    let fault = Status::Input { offset: 27 };
+    let cut = &ONE_PLOT[..32];
+    let all = [1000, 1000];
+    let runs = [
+        replayed(cut, all, &[], fault, &[], "input: offset 27\n"),
+        replayed(cut, all, &[7], fault, &[], ""),
+        replayed(&ONE_PLOT, all, &[8], screen, &PICTURE, "write: Screen\n"),
+        replayed(
+            &ONE_PLOT,
+            [10, 1000],
+            &[],
+            output,
+            &PICTURE[..10],
+            "write: Output\n",
+        ),
+        replayed(&ONE_PLOT, [1000, 9], &[], screen, &PICTURE, "editions "),
+        replayed(&ONE_PLOT, all, &[], Status::Done, &PICTURE, LINE),
+    ];
+    compare(&rt, rt.alloc(), &runs)
 }

@@ -1,48 +1,68 @@
-use super::{ONE_PLOT, SETTINGS, USAGE, WORDS, run, words_of};
+use super::{NONE, ONE_PLOT, Run, SETTINGS, compare, words_of};
 use crate::{Command, Status, WordsError, parse_words};
-use io_traits::{Place, Way};
+use std::alloc::Global;
+use std::process::Abort;
 use std::test::Fail;
 
-#[test]
-fn places_are_bound_to_their_words(rt: HostRuntime) -> Result<(), Fail> {
-    let (answer, host) = run(
-        &rt,
-        rt.alloc(),
-        &WORDS,
-        SETTINGS,
-        &ONE_PLOT,
-        [1000, 1000],
-        &[],
-    )?;
-    assert_eq!(rt; answer, Status::Done);
-    assert_eq!(rt; host.bound(Place::Settings), Some((Way::Read, "a")));
-    assert_eq!(rt; host.bound(Place::Input), Some((Way::Read, "b")));
-    assert_eq!(rt; host.bound(Place::Output), Some((Way::Write, "c")));
-    assert_eq!(rt; host.bound(Place::Prices), None);
+const USAGE: &str = "usage: tracker replay, check, scene, exercise or serve\n";
+
+// Compares what the words are parsed as.
+fn compare_words(
+    rt: &impl Abort,
+    alloc: Global,
+    texts: &[&str],
+    parsed: Result<Command, WordsError>,
+) -> Result<(), Fail> {
+    let words = words_of(alloc, texts)?;
+    assert_eq!(rt; parse_words(alloc, &words), parsed, "at {texts:?}");
     Ok(())
 }
 
 #[test]
-fn words_of_a_replay(rt: HostRuntime) -> Result<(), Fail> {
+fn words_of_commands(rt: HostRuntime) -> Result<(), Fail> {
     let alloc = rt.alloc();
-    let words = words_of(alloc, &WORDS)?;
-    let command = Command::Replay {
+    let replay = Command::Replay {
         settings: String::from_str(alloc, "a")?,
         input: String::from_str(alloc, "b")?,
         output: String::from_str(alloc, "c")?,
         prices: String::from_str(alloc, "d")?,
         workers: 1,
     };
-    assert_eq!(rt; parse_words(alloc, &words), Ok(command));
-    let words = words_of(alloc, &["check", "p"])?;
-    let prices = String::from_str(alloc, "p")?;
-    assert_eq!(rt; parse_words(alloc, &words), Ok(Command::Check { prices }));
-    Ok(())
+    let check = Command::Check {
+        prices: String::from_str(alloc, "p")?,
+    };
+    let scene = Command::Scene {
+        seed: 18_446_744_073_709_551_615,
+        aircraft: 2000,
+        seconds: 3600,
+        late: 100,
+        output: String::from_str(alloc, "r")?,
+    };
+    let numbers = ["scene", "18446744073709551615", "2000", "3600", "100", "r"];
+    compare_words(&rt, alloc, &numbers, Ok(scene))?;
+    compare_words(&rt, alloc, &["replay", "a", "b", "c", "d"], Ok(replay))?;
+    compare_words(&rt, alloc, &["check", "p"], Ok(check))
+}
+
+// A run of other words.
+fn refused<'a>(words: &'a [&'a str]) -> Run<'a> {
+    Run {
+        words,
+        settings: SETTINGS,
+        input: &ONE_PLOT,
+        prices: &[],
+        room: [1000, 1000],
+        fails: &[],
+        status: Status::Usage,
+        output: &[],
+        screen: USAGE,
+        bound: NONE,
+    }
 }
 
 #[test]
 fn other_words_are_refused(rt: HostRuntime) -> Result<(), Fail> {
-    let lines: [&[&str]; 10] = [
+    let lines: [&[&str]; 17] = [
         &[],
         &["replay", "a", "b", "c"],
         &["replay", "a", "b", "", "d"],
@@ -53,26 +73,17 @@ fn other_words_are_refused(rt: HostRuntime) -> Result<(), Fail> {
         &["check", "a", "b"],
         &["check", "--a"],
         &["check", ""],
+        &["scene", "1", "0", "30", "2", "r"],
+        &["scene", "1", "2001", "30", "2", "r"],
+        &["scene", "1", "20", "03", "2", "r"],
+        &["scene", "+1", "20", "30", "2", "r"],
+        &["scene", "18446744073709551616", "20", "30", "2", "r"],
+        &["scene", "1", "20", "30", "101", "r"],
+        &["scene", "1", "20", "30", "2", "--r"],
     ];
-    for line in lines {
-        let words = words_of(rt.alloc(), line)?;
-        assert_eq!(rt;
-            parse_words(rt.alloc(), &words),
-            Err(WordsError::Usage),
-            "at {line:?}"
-        );
-        let (answer, host) = run(
-            &rt,
-            rt.alloc(),
-            line,
-            SETTINGS,
-            &ONE_PLOT,
-            [1000, 1000],
-            &[],
-        )?;
-        assert_eq!(rt; answer, Status::Usage, "at {line:?}");
-        assert_eq!(rt; host.bound(Place::Settings), None);
-        assert_eq!(rt; host.got(Place::Screen), USAGE.as_bytes());
+    for words in lines {
+        compare_words(&rt, rt.alloc(), words, Err(WordsError::Usage))?;
+        compare(&rt, rt.alloc(), &[refused(words)])?;
     }
     Ok(())
 }

@@ -1,9 +1,5 @@
-use Rattle.std.proofs.Common.{◌≤◌, List, ℕ, length, map, rules, false}
+use Rattle.std.proofs.Common.{◌≤◌, length, rules}
 use Rattle.std.proofs.lemmas.Result.{IfOk-weaker}
-use Rattle.std.proofs.lemmas.Bool.{ltb-false}
-use Rattle.asterix_frame.specs.Packing.{ArePacked, IsPackingOf}
-use Rattle.cat062_out.specs.TrackRecords.{track_record}
-use Rattle.edition_form.specs.Lines.{told_lines}
 use Rattle.edition_form.proofs.Stepping.{packed_more, packed_all}
 use Rattle.edition_form.proofs.datagrams.track_blocks.Goals as goal
 

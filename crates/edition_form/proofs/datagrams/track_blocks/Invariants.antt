@@ -1,9 +1,4 @@
-use Rattle.std.proofs.Common.{◌≡◌, ℕ, ◌+◌, ◌-◌, ◌++◌, List, length, map}
-use Rattle.asterix_frame.specs.Packing.{IsPackingOf}
-use Rattle.cat062_out.specs.Tracks.{TrackLine}
-use Rattle.cat062_out.specs.TrackRecords.{track_record}
-use Rattle.edition_form.specs.Lines.{told_lines}
-use Rattle.edition_form.specs.Telling.{IsTold, left}
+use Rattle.std.proofs.Common.{◌+◌, ◌-◌, length}
 use Rattle.edition_form.proofs.Stepping.{ArePackedSoFar}
 use Rattle.edition_form.proofs.datagrams.track_blocks.Given as goal
 

@@ -3,7 +3,8 @@ use Rattle.trk_base.specs.Numbers.{slot_of}
 use Rattle.track_life.specs.Tracks.{TrackState}
 use Rattle.track_life.specs.Tables.{is_kept}
 use Rattle.edition_form.specs.Lines.{shown_line}
-use Rattle.edition_form.proofs.Shown.{shown_among, all_at, is_shown_by, step_of, collected_one, collected_none, collected_all}
+use Rattle.edition_form.proofs.Sorting.{all_at}
+use Rattle.edition_form.proofs.Shown.{shown_among, is_shown_by, step_of, collected_one, collected_none, collected_all}
 use Rattle.edition_form.proofs.picture.collect_lines.Goals as goal
 use Rattle.edition_form.proofs.picture.collect_lines.Goals.{in-Some+in_ok-push, in_default}
 

@@ -1,4 +1,4 @@
-use Rattle.std.proofs.Common.{◌∙◌, ap, sym, cond, ℕ}
+use Rattle.std.proofs.Common.{◌∙◌, ap, cond, ℕ}
 use Rattle.scene_gen.specs.Bearings.{bearing, bearing_from, quarter}
 use Rattle.scene_gen.proofs.bearings.bearing.Goals as goal
 

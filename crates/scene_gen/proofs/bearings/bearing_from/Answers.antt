@@ -1,4 +1,4 @@
-use Rattle.std.proofs.Common.{◌≡◌, ◌∙◌, ap, sym, ℕ, ◌+◌, ◌-◌, ◌^◌, arith}
+use Rattle.std.proofs.Common.{◌≡◌, ◌∙◌, ap, sym, ℕ, ◌-◌, arith}
 use Rattle.scene_gen.specs.Bearings.{bearing_from, direction}
 use Rattle.scene_gen.proofs.Digits.{next_is, room_set, room_clear, digit_set, digit_clear, digits_done}
 use Rattle.scene_gen.proofs.bearings.bearing_from.Goals as goal

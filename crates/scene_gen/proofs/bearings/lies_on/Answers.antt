@@ -1,4 +1,4 @@
-use Rattle.std.proofs.Common.{rules, ap, lit<, ◌^◌, pos, ◌*ℤ◌, ◌-ℤ◌}
+use Rattle.std.proofs.Common.{rules, ap, lit<, ◌^◌, pos}
 use Rattle.std.specs.Prelude.{FitsSigned, int_le}
 use Rattle.std.specs.Int.{w64}
 use Rattle.trk_base.proofs.Sizes.{fits, is_sub, minus, times}

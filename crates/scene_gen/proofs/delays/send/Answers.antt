@@ -1,4 +1,4 @@
-use Rattle.std.proofs.Common.{◌≡◌, ◌∙◌, ap, sym, subst, refl, ℕ, ◌+◌, ◌<◌, ◌≤◌, List, [], ◌++◌, length, map, take, get_or, arith}
+use Rattle.std.proofs.Common.{◌≡◌, ◌∙◌, ap, sym, subst, refl, ℕ, ◌+◌, ◌<◌, ◌≤◌, List, [], ◌++◌, length, map, get_or, arith}
 use Rattle.std.proofs.lemmas.List.{append-nil, get_or-map, length-map, length-set, take_all}
 use Rattle.recording.specs.Items.{Item, item_octets}
 use Rattle.scene_gen.specs.Delays.{Sent, after_delays, delayed}

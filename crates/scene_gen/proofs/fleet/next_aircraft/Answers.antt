@@ -1,9 +1,9 @@
-use Rattle.std.proofs.Common.{rules, ◌≡◌, ◌∙◌, ap, ℕ, ◌+◌, ◌*◌, [], ◌∷◌, pos, ◌-ℤ◌, ◌*ℤ◌}
+use Rattle.std.proofs.Common.{rules, ◌∙◌, ap, ◌+◌, ◌*◌, [], ◌∷◌, pos, ◌-ℤ◌, ◌*ℤ◌}
 use Rattle.std.specs.Prelude.{FitsSigned}
 use Rattle.std.specs.Int.{w32}
 use Rattle.std.proofs.lemmas.Int.{to_z-of_z}
 use Rattle.rand_pcg.specs.Lcg.{Lcg}
-use Rattle.scene_gen.specs.Draws.{after, drawn}
+use Rattle.scene_gen.specs.Draws.{drawn}
 use Rattle.scene_gen.specs.Fleets.{aircraft_of}
 use Rattle.scene_gen.proofs.Drawing.{one_more}
 use Rattle.scene_gen.proofs.fleet.next_aircraft.Goals as goal

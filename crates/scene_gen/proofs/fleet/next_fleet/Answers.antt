@@ -1,6 +1,5 @@
-use Rattle.std.proofs.Common.{◌∙◌, ◌≡◌, rules, ap, sym, ℕ, ◌+◌, ◌*◌, ◌++◌, [], ◌∷◌, arith}
+use Rattle.std.proofs.Common.{◌∙◌, ◌≡◌, rules, ap, sym, ◌*◌, ◌++◌, [], ◌∷◌, arith}
 use Rattle.std.proofs.lemmas.List.FromFn.{map-range_with_len_more}
-use Rattle.scene_gen.specs.declared.fleet.Aircraft.{Aircraft}
 use Rattle.scene_gen.specs.Draws.{after}
 use Rattle.scene_gen.specs.Fleets.{aircraft_of, fleet_from}
 use Rattle.scene_gen.proofs.Drawing.{after_none, nine_more}

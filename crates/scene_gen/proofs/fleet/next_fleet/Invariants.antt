@@ -1,7 +1,6 @@
-use Rattle.std.proofs.Common.{◌≡◌, ◌*◌, map}
-use Rattle.std.specs.List.{range_with_len}
+use Rattle.std.proofs.Common.{◌≡◌, ◌*◌}
 use Rattle.scene_gen.specs.Draws.{after}
-use Rattle.scene_gen.specs.Fleets.{aircraft_of, fleet_from}
+use Rattle.scene_gen.specs.Fleets.{fleet_from}
 use Rattle.scene_gen.proofs.fleet.next_fleet.Given as goal
 
 abbrev pub invariant-loop-number : goal.invariant-loop-number

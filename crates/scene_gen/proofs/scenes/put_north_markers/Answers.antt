@@ -1,9 +1,8 @@
-use Rattle.std.proofs.Common.{◌≡◌, ◌∙◌, ap, sym, ℕ, ◌*◌, ◌<◌, List, ◌++◌, take, get_or, true, false, arith, pos}
+use Rattle.std.proofs.Common.{◌≡◌, ◌∙◌, ap, sym, ℕ, ◌*◌, ◌<◌, List, ◌++◌, take, true, false, arith}
 use Rattle.std.specs.Prelude.{Vec}
 use Rattle.std.specs.declared.alloc.Global.{Global}
 use Rattle.std.proofs.lemmas.Bool.{eq-eqb, ne_eqb}
 use Rattle.std.proofs.lemmas.List.{append-nil}
-use Rattle.scene_gen.specs.declared.radars.SceneRadar.{SceneRadar}
 use Rattle.scene_gen.specs.Radars.{radars}
 use Rattle.scene_gen.proofs.Marking.{marks, marks_all, marks_more, no_radar}
 use Rattle.scene_gen.proofs.scenes.put_north_markers.Goals as goal

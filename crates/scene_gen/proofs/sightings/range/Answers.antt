@@ -1,5 +1,5 @@
 use Rattle.std.proofs.Common.{◌∙◌, ap, ℕ, ◌+◌, ◌*◌, ◌/◌}
-use Rattle.scene_gen.specs.Sightings.{height, range, slant}
+use Rattle.scene_gen.specs.Sightings.{range, slant}
 use Rattle.scene_gen.proofs.sightings.range.Goals as goal
 
 pub returns : goal.returns

@@ -1,4 +1,4 @@
-use Rattle.std.proofs.Common.{rules, ℕ, ◌+◌, ◌*◌, ◌≤◌, ◌^◌, arith}
+use Rattle.std.proofs.Common.{rules, ◌≤◌, ◌^◌, arith}
 use Rattle.std.proofs.lemmas.Nat.{mul-le}
 use Rattle.trk_base.proofs.Roots.{root_le}
 use Rattle.scene_gen.proofs.sightings.slant.Goals as goal

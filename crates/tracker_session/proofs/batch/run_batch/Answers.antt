@@ -1,36 +1,33 @@
-use Rattle.tracker_session.specs.Words.{texts}
-use Rattle.tracker_session.specs.declared.status.Status.TheVariants.{Memory}
-use Rattle.tracker_session.proofs.Finishing.{end_status}
-use Rattle.tracker_session.proofs.Running.{ran_nothing}
-use Rattle.tracker_session.proofs.Wording.{is_command, never_usage, no_replay, replay_of, check_of}
+use Rattle.io_traits.specs.Host.{HostState}
+use Rattle.session_script.specs.Ends.{ComesTo, Ended, MayHold}
+use Rattle.session_script.specs.Scripts.{Gives, end_of}
+use Rattle.session_script.specs.declared.status.Status.{Status}
+use Rattle.session_script.proofs.Coming.{comes_so, comes_to, foretold}
+use Rattle.tracker_session.specs.Commands.{CommandGives, script_of}
+use Rattle.tracker_session.specs.Words.{Line, line_of, texts}
+use Rattle.io_traits.specs.declared.host.Place.{Place}
+use Rattle.std.specs.Prelude.{◌≡◌, None}
+use Rattle.tracker_session.proofs.Giving.{command_gives}
+use Rattle.tracker_session.proofs.Refusing.{only_other}
 use Rattle.tracker_session.proofs.batch.run_batch.Goals as goal
 
-pub returns-in-Ok-clause-usage : goal.returns-in-Ok-clause-usage
-returns-in-Ok-clause-usage g c = λ e words.
-    let state = g.H.Host.state in
-    never_usage c.in-Ok.command c.run_command.result (state c.args.host.now) (state c.run_command.new.host) c.run_command.ensures e
+came_so : (line : Line) (status : Status) (old new : HostState) → ((p : Place) → old.bound p ≡ None) → Ended (script_of line) status old new → ComesTo (CommandGives line (MayHold old)) status old new
+came_so line status old new unbound ended = comes_so (Gives (script_of line) (MayHold old)) (CommandGives line (MayHold old)) status old new (command_gives line (MayHold old)) (comes_to (script_of line) status old new unbound ended)
 
-pub returns-in-Ok-clause-other : goal.returns-in-Ok-clause-other
-returns-in-Ok-clause-other g c = λ none. absurd (none (is_command (texts c.args.words.now) c.in-Ok.command c.in-Ok.ensures.command))
+ended : (g : _) (c : goal.After-tell g) → Ended (script_of (line_of (texts c.args.words.now))) c.tell.result (g.H.Host.state c.args.host.now) (g.H.Host.state c.tell.new.host)
+ended g c = record { end = end_of c.run_words-end.result; mid = g.H.Host.state c.run_words-end.new.host; follows = c.run_words-end.ensures; says = c.tell.ensures.says; screen = c.tell.ensures.touches }
 
-pub returns-in-Ok-clause-replay : goal.returns-in-Ok-clause-replay
-returns-in-Ok-clause-replay g c =
-    let state = g.H.Host.state in
-    replay_of (texts c.args.words.now) c.in-Ok.command c.run_command.result (state c.args.host.now) (state c.run_command.new.host) c.in-Ok.ensures.command c.run_command.ensures
+came : (g : _) (c : goal.After-tell g) → ComesTo (CommandGives (line_of (texts c.args.words.now)) (MayHold (g.H.Host.state c.args.host.now))) c.tell.result (g.H.Host.state c.args.host.now) (g.H.Host.state c.tell.new.host)
+came g c = came_so (line_of (texts c.args.words.now)) c.tell.result (g.H.Host.state c.args.host.now) (g.H.Host.state c.tell.new.host) c.requires (ended g c)
 
-pub returns-in-Ok-clause-check : goal.returns-in-Ok-clause-check
-returns-in-Ok-clause-check g c =
-    let state = g.H.Host.state in
-    check_of (texts c.args.words.now) c.in-Ok.command c.run_command.result (state c.args.host.now) (state c.run_command.new.host) c.in-Ok.ensures.command c.run_command.ensures
+pub returns-clause-came : goal.returns-clause-came
+returns-clause-came g c = ended g c
 
-pub returns-in-Err-Usage-clause-replay : goal.returns-in-Err-Usage-clause-replay
-returns-in-Err-Usage-clause-replay g c =
-    let state = g.H.Host.state in
-    no_replay (texts c.args.words.now) c.tell.result (state c.args.host.now) (state c.tell.new.host) (c.in-Err-Usage.ensures.usage cc)
+pub returns-clause-outcome : goal.returns-clause-outcome
+returns-clause-outcome g c = came g c
 
-pub returns-in-Err-NoMemory-clause-replay : goal.returns-in-Err-NoMemory-clause-replay
-returns-in-Err-NoMemory-clause-replay g c = λ settings input output words.
-    let state = g.H.Host.state in
-    let old = state c.args.host.now in
-    let e = c.tell-in-Err-NoMemory.ensures in
-    end_status settings input output Memory c.tell-in-Err-NoMemory.result old old (state c.tell-in-Err-NoMemory.new.host) (ran_nothing settings input output old c.requires) e.status e.told e.touches
+pub returns-clause-complete : goal.returns-clause-complete
+returns-clause-complete g c = λ none memory. foretold (CommandGives (line_of (texts c.args.words.now)) (MayHold (g.H.Host.state c.args.host.now))) c.tell.result (g.H.Host.state c.args.host.now) (g.H.Host.state c.tell.new.host) none memory (came g c)
+
+pub returns-clause-usage : goal.returns-clause-usage
+returns-clause-usage g c = λ usage. only_other (line_of (texts c.args.words.now)) (MayHold (g.H.Host.state c.args.host.now)) c.tell.result (g.H.Host.state c.args.host.now) (g.H.Host.state c.tell.new.host) (came g c) usage

@@ -1,4 +1,4 @@
-use Rattle.tracker_session.proofs.Runs.{one_replay}
+use Rattle.tracker_session.proofs.Replayed.{one_replay}
 use Rattle.tracker_session.proofs.SomeReplay.{some_replay}
 use Rattle.tracker_session.proofs.laws.one_replay.Goals as goal
 

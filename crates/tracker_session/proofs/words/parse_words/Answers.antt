@@ -1,26 +1,30 @@
-use Rattle.std.proofs.Common.{◌≡◌, ◌∙◌, ap, sym, subst, ℕ, List, [], ◌∷◌, IfOk, map, string_bytes}
-use Rattle.tracker_session.specs.Words.{AreCommand, IsCommand, texts}
-use Rattle.tracker_session.proofs.Wording.{two, five}
+use Rattle.std.proofs.Common.{rules, ◌≡◌, ◌<◌, ◌≤◌, refl, arith, ℕ, List, [], ◌∷◌, length}
+use Rattle.std.specs.Prelude.{string_bytes}
+use Rattle.std.proofs.lemmas.List.{length-map}
+use Rattle.tracker_session.specs.Words.{line_of, other, texts}
 use Rattle.tracker_session.proofs.words.parse_words.Goals as goal
+use Rattle.tracker_session.proofs.words.parse_words.Goals.{in_default-via-then-words-lt2, in_default-via-else-words-lt2+else-words-lt3+then-words-lt5, in_default-via-else-words-lt2+else-words-lt3+else-words-lt5+else-words-lt6+else-words-lt7}
 
-two_words : (c : goal.After-parse_check) → texts c.args.words.now ≡ c.as_str.result.now ∷ c.as_str-in-len2.result.now ∷ []
-two_words c =
-    let whole = two c.args.words.now _ _ c.in-len2.len_at_least c.in-len2.len_below c.command-item.is c.prices-item.is in
-    ap (map (λ word. string_bytes word)) whole ∙ (λ i. sym c.as_str.ensures.value i ∷ sym c.as_str-in-len2.ensures.value i ∷ [])
+-- no command has one word, none, three, four, or more than six
+no_line : (words : List (List ℕ)) → (length words ≡ 2 → ⊥) → (length words ≡ 5 → ⊥) → (length words ≡ 6 → ⊥) → line_of words ≡ other
+no_line [] two five six = refl
+no_line (a ∷ []) two five six = refl
+no_line (a ∷ b ∷ []) two five six = absurd (two refl)
+no_line (a ∷ b ∷ c ∷ []) two five six = refl
+no_line (a ∷ b ∷ c ∷ d ∷ []) two five six = refl
+no_line (a ∷ b ∷ c ∷ d ∷ e ∷ []) two five six = absurd (five refl)
+no_line (a ∷ b ∷ c ∷ d ∷ e ∷ f ∷ []) two five six = absurd (six refl)
+no_line (a ∷ b ∷ c ∷ d ∷ e ∷ f ∷ g ∷ more) two five six = refl
 
-five_words : (c : goal.After-parse_replay) → texts c.args.words.now ≡ c.as_str-in-len5.result.now ∷ c.as_str-in-len5-2.result.now ∷ c.as_str-in-len5-3.result.now ∷ c.as_str-in-len5-4.result.now ∷ c.as_str-in-len5-5.result.now ∷ []
-five_words c =
-    let whole = five c.args.words.now _ _ _ _ _ c.in-len5.len_at_least c.in-len5.len_below c.command-item-then-words-lt6.is c.settings-item.is c.input-item.is c.output-item.is c.prices-item-then-words-lt6.is in
-    ap (map (λ word. string_bytes word)) whole ∙ (λ i. sym c.as_str-in-len5.ensures.value i ∷ sym c.as_str-in-len5-2.ensures.value i ∷ sym c.as_str-in-len5-3.ensures.value i ∷ sym c.as_str-in-len5-4.ensures.value i ∷ sym c.as_str-in-len5-5.ensures.value i ∷ [])
-
-pub returns-in-len2-clause-command : goal.returns-in-len2-clause-command
-returns-in-len2-clause-command c = subst (λ (words : List (List ℕ)). IfOk c.parse_check.result (λ command. IsCommand words command)) (sym (two_words c)) c.parse_check.ensures.command
-
-pub returns-in-len2-clause-usage : goal.returns-in-len2-clause-usage
-returns-in-len2-clause-usage c = λ e words. c.parse_check.ensures.usage e (subst AreCommand (two_words c) words)
-
-pub returns-in-len5-clause-command : goal.returns-in-len5-clause-command
-returns-in-len5-clause-command c = subst (λ (words : List (List ℕ)). IfOk c.parse_replay.result (λ command. IsCommand words command)) (sym (five_words c)) c.parse_replay.ensures.command
-
-pub returns-in-len5-clause-usage : goal.returns-in-len5-clause-usage
-returns-in-len5-clause-usage c = λ e words. c.parse_replay.ensures.usage e (subst AreCommand (five_words c) words)
+pub returns-in_default : goal.returns-in_default
+returns-in_default c =
+    let words = c.args.words.now in
+    let many = length-map words (λ word. string_bytes word) in
+    elim c.in_default.branch [
+      | in_default-via-then-words-lt2 w ↦ (let few : length words < 2 = search rules in no_line (texts words) (λ e. omega (arith, e, few, many)) (λ e. omega (arith, e, few, many)) (λ e. omega (arith, e, few, many)))
+      | in_default-via-else-words-lt2+else-words-lt3+then-words-lt5 w ↦ (
+          let some : 3 ≤ length words = search rules in
+          let few : length words < 5 = search rules in
+          no_line (texts words) (λ e. omega (arith, e, some, many)) (λ e. omega (arith, e, few, many)) (λ e. omega (arith, e, few, many)))
+      | in_default-via-else-words-lt2+else-words-lt3+else-words-lt5+else-words-lt6+else-words-lt7 w ↦ (let some : 7 ≤ length words = search rules in no_line (texts words) (λ e. omega (arith, e, some, many)) (λ e. omega (arith, e, some, many)) (λ e. omega (arith, e, some, many)))
+    ]

@@ -1,8 +1,6 @@
-use Rattle.std.proofs.Common.{◌≡◌, ◌∙◌, ap, sym, subst, rules, true, false, ℕ, ◌+◌, ◌++◌, get_or, drop, arith, Option, List}
-use Rattle.std.specs.Option.{option_to_list}
-use Rattle.cat062_out.specs.Tracks.{TrackLine}
+use Rattle.std.proofs.Common.{◌∙◌, ap, sym, subst, ◌+◌, drop, arith}
 use Rattle.edition_form.specs.declared.telling.Told.{Told}
-use Rattle.edition_form.specs.Telling.{IsTold, left, old_first}
+use Rattle.edition_form.specs.Telling.{IsUnderway}
 use Rattle.edition_form.proofs.Stepping.{past_old_step, past_old_lines, past_now_step, past_now_lines, some_line, old_inside, now_inside, told_so}
 use Rattle.edition_form.proofs.telling.Told.next.Goals as goal
 
@@ -11,7 +9,7 @@ returns-then-comes_old-clause-told c =
     let first = sym c.comes_old.ensures ∙ c.if-comes_old.true in
     let inside = old_inside c.args.old.now (drop c.args.self.now.now_count c.args.now.now) c.args.self.now.old_count first in
     let d = some_line c.args.old.now c.args.self.now.old_count inside in
-    subst (IsTold c.args.old.now c.args.now.now) (sym (c.past_old.ensures.told d)) (past_old_step c.args.old.now c.args.now.now c.args.self.now d c.requires.told inside first)
+    subst (IsUnderway c.args.old.now c.args.now.now) (sym (c.past_old.ensures.told d)) (past_old_step c.args.old.now c.args.now.now c.args.self.now d c.requires.told inside first)
 
 pub returns-then-comes_old-clause-line : goal.returns-then-comes_old-clause-line
 returns-then-comes_old-clause-line c =
@@ -33,7 +31,7 @@ returns-else-comes_old-clause-told c =
     let first = sym c.comes_old.ensures ∙ c.if-comes_old.false in
     let inside = now_inside c.args.old.now c.args.now.now c.args.self.now.old_count c.args.self.now.now_count c.requires.some_left first in
     let d = some_line c.args.now.now c.args.self.now.now_count inside in
-    subst (IsTold c.args.old.now c.args.now.now) (sym c.past_now.ensures.told) (past_now_step c.args.old.now c.args.now.now c.args.self.now d c.requires.told inside first)
+    subst (IsUnderway c.args.old.now c.args.now.now) (sym c.past_now.ensures.told) (past_now_step c.args.old.now c.args.now.now c.args.self.now d c.requires.told inside first)
 
 pub returns-else-comes_old-clause-line : goal.returns-else-comes_old-clause-line
 returns-else-comes_old-clause-line c =

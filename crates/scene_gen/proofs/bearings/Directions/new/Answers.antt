@@ -1,4 +1,4 @@
-use Rattle.std.proofs.Common.{◌≡◌, ◌∙◌, ap, ℕ, List, Option, None, replicate, ℤ, arith}
+use Rattle.std.proofs.Common.{◌≡◌, ◌∙◌, ap, ℕ, Option, None, replicate, ℤ, arith}
 use Rattle.scene_gen.proofs.Making.{none_made}
 use Rattle.scene_gen.proofs.bearings.Directions.new.Goals as goal
 

@@ -1,5 +1,5 @@
-use Rattle.std.proofs.Common.{◌≡◌, ◌∙◌, ap, sym, subst, ℕ, ◌<◌, set, Some, arith}
-use Rattle.scene_gen.specs.Bearings.{AreDirections, direction}
+use Rattle.std.proofs.Common.{sym, subst, ℕ, set, Some, arith}
+use Rattle.scene_gen.specs.Bearings.{AreDirections}
 use Rattle.scene_gen.proofs.Making.{one_made, read_made}
 use Rattle.scene_gen.proofs.bearings.Directions.of.Goals as goal
 

@@ -1,9 +1,7 @@
-use Rattle.std.proofs.Common.{◌≡◌, ◌∙◌, ap, sym, ℕ, List, [], ◌∷◌, ◌++◌, get_or, Some, None}
+use Rattle.std.proofs.Common.{◌∙◌, ap, sym, ℕ, List, [], ◌∷◌, ◌++◌, get_or}
 use Rattle.std.specs.Prelude.{Vec}
 use Rattle.std.specs.declared.alloc.Global.{Global}
 use Rattle.std.proofs.lemmas.List.{append-nil}
-use Rattle.scene_gen.specs.Answers.{polar_of}
-use Rattle.scene_gen.specs.Datagrams.{plot_of}
 use Rattle.scene_gen.proofs.Seeing.{nowhere, plot_missing, plot_there, seen_more}
 use Rattle.scene_gen.proofs.sweeps.Sweep.look.Goals as goal
 use Rattle.scene_gen.proofs.sweeps.Sweep.look.Goals.{in-Some+in_ok-push, in_default}
