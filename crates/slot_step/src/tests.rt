@@ -12,7 +12,7 @@ use std::process::Abort;
 use std::sync::ledger::{Blank, Ledger};
 use std::test::Fail;
 use track_life::{LifeSettings, Table, Track};
-use trk_base::{Key, NoMemory, Steps, charge, slot_of};
+use trk_base::{Key, NoMemory, Steps, TryCopy, charge, slot_of};
 
 // A plot's time, radar, arrival, and place to the north in 1,000/64 m.
 type Row = (u64, u8, u64, u16);
@@ -147,7 +147,13 @@ fn fold<L: Ledger>(
         assert_eq!(rt; run.certs.len(), step.certs.len());
         let starts = batch_tables(alloc, &table, slot, &batches, life)?;
         assert_eq!(rt; starts.len(), batches.len());
+        assert!(rt;
+            starts
+                .iter()
+                .all(|start| start.tracks().len() <= step.table.tracks().len())
+        );
         assert!(rt; all_prove(step.certs.as_slice()));
+        assert!(rt; step.certs.copy(alloc)? == step.certs);
         table = step.table;
     }
     Ok(table)
