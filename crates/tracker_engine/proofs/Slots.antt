@@ -22,9 +22,9 @@ use Rattle.admission_log.specs.Histories.{History, first, last_of}
 use Rattle.admission_log.proofs.Greatest.{Has, has_left, has_right, has_either, has_filtered, passes_filtered}
 use Rattle.tracker_fold.specs.Keys.{key_in}
 use Rattle.tracker_fold.specs.Laws.{in_order}
-use Rattle.tracker_fold.specs.Folds.{AreEntriesOf}
+use Rattle.tracker_fold.specs.Folds.{AreEntriesOf, IsFilled}
 use Rattle.tracker_engine.specs.Engines.{EntryWindow, with_events}
-use Rattle.tracker_engine.specs.Spans.{entries_from, IsFilled, IsSettled, AreSettled, OpensSpan, IsInSpan, AreSpan}
+use Rattle.tracker_engine.specs.Spans.{entries_from, IsSettled, AreSettled, OpensSpan, IsInSpan, AreSpan}
 use Rattle.tracker_engine.proofs.Members.{has_of, of_has, has_moved, all_at, all_above, above_all, all_or, Rise, rise_of, of_rise, rise_filter, fewer}
 use Rattle.tracker_engine.proofs.Entering.{new_entries, first_more, from_more, entries_cut}
 
@@ -76,6 +76,20 @@ whole_first log = ap (λ l. record { start = log.start; events = l }) (take_all 
 
 none_from : (log : History) → entries_from (length log.events) log ≡ []
 none_from log = ap (flat_map (λ at. entries_in at.0 at.1)) (drop_all (length log.events) (enumerate_from 0 log.events) (omega (arith, length-enumerate_from 0 log.events)))
+
+-- where all events are settled, so is each slot that is filled and over
+pub whole_settled : (log : History) (n : ℕ) → n < slot_of (last_of log) → IsFilled (entries_of log) n → IsSettled log (length log.events) n
+whole_settled log n over filled = record {
+  over = subst (λ l. n < slot_of (last_of l)) (sym (whole_first log)) over;
+  filled = subst (λ l. IsFilled (entries_of l) n) (sym (whole_first log)) filled;
+  later = subst (AllByRecursion (λ e. n < slot_in e)) (sym (none_from log)) tt;
+}
+
+pub settled_over : (log : History) (n : ℕ) → IsSettled log (length log.events) n → n < slot_of (last_of log)
+settled_over log n is = subst (λ l. n < slot_of (last_of l)) (whole_first log) is.over
+
+pub settled_filled : (log : History) (n : ℕ) → IsSettled log (length log.events) n → IsFilled (entries_of log) n
+settled_filled log n is = subst (λ l. IsFilled (entries_of l) n) (whole_first log) is.filled
 
 module _ (log : History) (es : List Event) (s : ℕ) (within : s ≤ length log.events) where
   grown_settled : (n : ℕ) → IsSettled log s n → AllByRecursion (λ e. n < slot_in e) (new_entries log es) → IsSettled (with_events log es) s n
@@ -143,16 +157,12 @@ module _ (log : History) (all : List Entry) (o : AreEntriesOf log all) (w : Entr
           let under = passes_filtered (λ y. ltb (slot_in y) upto) x.0 w.items x.1 in
           let lt : n < upto = subst (λ m. m < upto) x.2 (ltb-true (slot_in x.0) upto under.1) in (
             leb-true low n kept.1,
-            record {
-              over = subst (λ l. n < slot_of (last_of l)) (sym (whole_first log)) lt;
-              filled = subst (λ l. IsFilled (entries_of l) n) (sym (whole_first log)) (record { entry = x.0; there = of_has x.0 (entries_of log) (kept_in x.0 under.0).0; of_slot = x.2 });
-              later = subst (AllByRecursion (λ e. n < slot_in e)) (sym (none_from log)) tt;
-            },
+            whole_settled log n lt (record { entry = x.0; there = of_has x.0 (entries_of log) (kept_in x.0 under.0).0; of_slot = x.2 }),
           )
       back : (n : ℕ) → low ≤ n → IsSettled log (length log.events) n → Has n (filter (λ n. leb low n) (slots slot_in over))
       back n ge is =
-          let filled = subst (λ l. IsFilled (entries_of l) n) (whole_first log) is.filled in
-          let lt : n < upto = subst (λ l. n < slot_of (last_of l)) (whole_first log) is.over in
+          let filled = settled_filled log n is in
+          let lt : n < upto = settled_over log n is in
           let e = filled.entry in
           let kept = in_kept e (has_of e (entries_of log) filled.there) (omega (arith, le, ge, filled.of_slot)) in
           let under : Has e over = has_filtered (λ y. ltb (slot_in y) upto) e w.items kept (lt-ltb (slot_in e) upto (omega (arith, lt, filled.of_slot))) in
