@@ -1,11 +1,11 @@
-mod Ages
-mod Rising
-mod Sorting
-mod Merging
-mod Stepping
-mod Shown
-mod Climbing
-mod Packable
-mod TrackSizes
-mod Foldings
-mod Worked
+pub mod Ages
+pub mod Rising
+pub mod Sorting
+pub mod Merging
+pub mod Stepping
+pub mod Shown
+pub mod Climbing
+pub mod Packable
+pub mod TrackSizes
+pub mod Foldings
+pub mod Worked
