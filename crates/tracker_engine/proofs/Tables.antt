@@ -3,17 +3,19 @@ use Rattle.std.proofs.Common.{◌≡◌, ◌∙◌, ap, sym, refl, subst, ℕ, z
 use Rattle.std.specs.Prelude.{filter, nat_le, slice_get, flat_map, Contains}
 use Rattle.std.specs.Option.{option_map}
 use Rattle.std.specs.List.{AllByRecursion, enumerate_from}
-use Rattle.std.proofs.lemmas.Bool.{eq-eqb, le-leb, leb-true}
+use Rattle.std.proofs.lemmas.Bool.{cond_both, eq-eqb, le-leb, leb-true}
 use Rattle.std.proofs.lemmas.List.Folds.{flat_map-map}
 use Rattle.std.proofs.lemmas.List.Sorted.{IsPermutation-sym}
 use Rattle.trk_base.specs.Numbers.{slot_of}
 use Rattle.plot_geometry.specs.declared.biases.Bias.{Bias}
 use Rattle.plot_geometry.specs.declared.radars.RadarSettings.{RadarSettings}
 use Rattle.plot_geometry.specs.Biases.{bias_of, biased}
+use Rattle.price_form.specs.Certificates.{IsCert}
 use Rattle.price_form.specs.declared.certs.Cert.{Cert}
 use Rattle.late_window.specs.Folding.{at_slot, latest, OutsAt}
 use Rattle.late_window.specs.Windows.{folded, state_of}
 use Rattle.late_window.proofs.Cuts.{at_none}
+use Rattle.late_window.proofs.Lists.{all_append}
 use Rattle.slot_step.specs.declared.certs.KeyedCert.{KeyedCert}
 use Rattle.admission_log.specs.declared.settings.Settings.{Settings}
 use Rattle.admission_log.specs.declared.entries.Entry.{Entry}
@@ -70,6 +72,20 @@ outs_kept p settings all (o ∷ os) h =
       | true ↦ (h.0, outs_kept p settings all os h.1)
       | false ↦ outs_kept p settings all os h.1
     ]
+
+-- ---- each certificate is whole
+
+few_whole : (cs : List KeyedCert) → AllByRecursion (λ c. IsCert c.cert) cs → AllByRecursion IsCert (map (λ k. k.cert) cs)
+few_whole [] h = tt
+few_whole (c ∷ cs) h = (h.0, few_whole cs h.1)
+
+all_whole : (p : ℕ → Bool) (settings : Settings) (all : List Entry) (os : List (ℕ × List KeyedCert)) → OutsAt next slot_in IsOut (start settings) all (map (λ o. o.0) os) (map (λ o. o.1) os)
+    → AllByRecursion IsCert (flat_map (λ o. map (λ k. k.cert) o.1) (filter (λ o. p o.0) os))
+all_whole p settings all [] h = tt
+all_whole p settings all (o ∷ os) h =
+    cond_both (p o.0) (o ∷ filter (λ o. p o.0) os) (filter (λ o. p o.0) os) (λ l. AllByRecursion IsCert (flat_map (λ o. map (λ k. k.cert) o.1) l))
+    (λ _. all_append IsCert (map (λ k. k.cert) o.1) (flat_map (λ o. map (λ k. k.cert) o.1) (filter (λ o. p o.0) os)) (few_whole o.1 h.0.whole) (all_whole p settings all os h.1))
+    (λ _. all_whole p settings all os h.1)
 
 module _ (settings : Settings) (log : History) (before : ℕ) (e : EngineState) (s : StandsFor settings log (length log.events) before e) where
   abbrev now : ℕ
@@ -141,3 +157,6 @@ module _ (settings : Settings) (log : History) (before : ℕ) (e : EngineState) 
           (subst (λ ns. OutsAt next slot_in IsOut (start settings) all ns (map (λ o. o.1) kept)) (slots_kept (nat_le low) e.window.outs) (outs_kept (nat_le low) settings all e.window.outs s.entries.outs))
       all_is : certs ≡ flat_map (map (λ k. k.cert)) (map (λ o. o.1) kept)
       all_is = is ∙ (λ i. flat_map (λ o. map (λ k. k.cert) o.1) (filter (λ o. nat_le (low_at ((s.settings_are i).window) (s.last_is i)) o.0) e.window.outs)) ∙ sym (flat_map-map (map (λ k. k.cert)) (λ o. o.1) kept)
+
+  pub certs_whole : (certs : List Cert) → certs ≡ flat_map (λ o. map (λ k. k.cert) o.1) (filter (λ o. nat_le (low_at e.settings.window e.last) o.0) e.window.outs) → AllByRecursion IsCert certs
+  certs_whole certs is = subst (AllByRecursion IsCert) (sym is) (all_whole (nat_le (low_at e.settings.window e.last)) settings all e.window.outs s.entries.outs)

@@ -1,6 +1,7 @@
 // What an engine is, and its calls.
-ghost use Rattle.std.specs.Prelude.{◌≡◌, ◌<◌, ◌≤◌, ◌+◌, ◌-◌, ◌*◌, ◌^◌, ℕ, List, [], length, IfOk, OnErr, OnOk};
+ghost use Rattle.std.specs.Prelude.{◌≡◌, ◌<◌, ◌≤◌, ◌+◌, ◌-◌, ◌*◌, ◌^◌, ℕ, List, [], length, All, IfOk, OnErr, OnOk};
 ghost use Rattle.std.specs.Arc.{arc_value};
+ghost use Rattle.price_form.specs.Certificates.{IsCert};
 ghost use Rattle.admission_log.specs.declared.settings.Settings.{Settings};
 ghost use Rattle.admission_log.specs.Histories.{History, low_at};
 ghost use Rattle.admission_log.specs.Legality.{IsLegal};
@@ -119,6 +120,7 @@ impl Engine {
         requires from_one { 1 ≤ number }
         ensures edition { (settings : Settings) (log : History) (before : ℕ) → StandsFor settings log (length log.events) before self.now → IfOk result (λ b. IsEdition settings log before number b.edition) }
         ensures shown { (settings : Settings) (log : History) (before : ℕ) → StandsFor settings log (length log.events) before self.now → IfOk result (λ b. b.shown ≡ shown_of settings log) }
+        ensures whole { (settings : Settings) (log : History) (before : ℕ) → StandsFor settings log (length log.events) before self.now → IfOk result (λ b. All IsCert b.edition.certs) }
     {
         let state = self.window.state();
         let biases = biases_at(
