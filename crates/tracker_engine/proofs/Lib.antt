@@ -1,0 +1,9 @@
+pub mod Beginning
+pub mod Editions
+pub mod Entering
+pub mod Hearing
+pub mod Members
+pub mod Slots
+pub mod Standing
+pub mod States
+pub mod Tables
