@@ -1,4 +1,4 @@
-use Rattle.std.proofs.Common.{◌≡◌, ◌∙◌, ap, sym, subst, length, map}
+use Rattle.std.proofs.Common.{◌∙◌, ap, sym, subst, length, map}
 use Rattle.std.specs.Prelude.{filter, flat_map, nat_le}
 use Rattle.late_window.specs.Folding.{Rises}
 use Rattle.admission_log.specs.EntryOrder.{entry_cmp}
