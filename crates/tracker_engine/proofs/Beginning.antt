@@ -1,5 +1,5 @@
 -- An engine for a log without events.
-use Rattle.std.proofs.Common.{◌≡◌, ◌∙◌, ap, sym, refl, subst, ℕ, zero, suc, ◌+◌, ◌-◌, ◌≤◌, List, [], ◌∷◌, ◌++◌, length, map, Option, Some, None, arith}
+use Rattle.std.proofs.Common.{◌≡◌, ◌∙◌, ap, sym, refl, subst, ℕ, zero, suc, ◌+◌, List, [], ◌∷◌, ◌++◌, length, map, Option, None, arith}
 use Rattle.std.specs.List.{range_with_len}
 use Rattle.std.specs.List.Sorted.{IsStrictlySortedBy}
 use Rattle.std.proofs.lemmas.List.Sorted.{IsPermutation-refl}
@@ -8,7 +8,7 @@ use Rattle.late_window.proofs.Cuts.{before_none}
 use Rattle.slot_step.specs.Calls.{AreFromBefore}
 use Rattle.admission_log.specs.declared.settings.Settings.{Settings}
 use Rattle.admission_log.specs.Entries.{slot_in}
-use Rattle.admission_log.specs.Histories.{History, low_at}
+use Rattle.admission_log.specs.Histories.{low_at}
 use Rattle.admission_log.specs.Legality.{IsLegal}
 use Rattle.tracker_fold.specs.declared.state.TrackerState.{TrackerState}
 use Rattle.tracker_fold.specs.Starts.{start}

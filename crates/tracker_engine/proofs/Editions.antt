@@ -1,14 +1,16 @@
 -- What is built of an engine where all of its log is settled is the edition of the log.
-use Rattle.std.proofs.Common.{◌≡◌, ◌∙◌, ap, sym, refl, subst, ℕ, ◌≤◌, Bool, true, false, cond, eqb, List, [], length, map, Option, Result, Ok, Err}
-use Rattle.std.specs.Prelude.{IfOk}
-use Rattle.std.specs.List.{enumerate_from, range_with_len}
+use Rattle.std.proofs.Common.{◌≡◌, ◌∙◌, ap, sym, subst, ℕ, true, false, cond, eqb, List, [], length, map, Option, Result, Ok, Err}
+use Rattle.std.specs.Prelude.{All, IfOk}
+use Rattle.std.specs.List.{AllByRecursion, enumerate_from, range_with_len}
 use Rattle.std.proofs.lemmas.List.{length-map}
+use Rattle.std.proofs.lemmas.List.Elements.{All-from_recursion}
 use Rattle.std.proofs.lemmas.List.FromFn.{length-enumerate_from, length-range_with_len}
 use Rattle.trk_base.specs.declared.memory.NoMemory.{NoMemory}
 use Rattle.trk_base.specs.Numbers.{slot_of}
 use Rattle.plot_geometry.specs.declared.biases.Bias.{Bias}
 use Rattle.plot_geometry.specs.declared.radars.RadarSettings.{RadarSettings}
 use Rattle.plot_geometry.specs.Biases.{bias_of}
+use Rattle.price_form.specs.Certificates.{IsCert}
 use Rattle.price_form.specs.declared.certs.Cert.{Cert}
 use Rattle.track_life.specs.Tracks.{TrackState}
 use Rattle.late_window.specs.Folding.{Rises, at_slot}
@@ -118,3 +120,9 @@ module _ (settings : Settings) (log : History) (before : ℕ) (given : Settings)
         (λ i. (are.settings_are i, (are.biases_are i, (are.table_is i, (are.services_are i, (are.time_is i, are.old_are i)))))) d;
     certs = subst (AreLogCertificates settings log) (sym c) log_certs;
   }
+
+-- ---- its certificates are whole
+
+pub all_certs : (certs : List Cert) (r : Result Built NoMemory) → AllByRecursion IsCert certs → IfOk r (λ b. b.edition.certs ≡ certs) → IfOk r (λ b. All IsCert b.edition.certs)
+all_certs certs (Ok b) whole c = All-from_recursion IsCert b.edition.certs (subst (AllByRecursion IsCert) (sym c) whole)
+all_certs certs (Err e) whole c = tt

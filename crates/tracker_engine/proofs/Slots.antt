@@ -1,6 +1,6 @@
 -- The filled slots of entries: those that are settled, and those that are to be folded.
-use Rattle.std.proofs.Common.{◌≡◌, ◌≢◌, ◌∙◌, ap, sym, refl, subst, ℕ, zero, suc, ◌+◌, ◌≤◌, ◌<◌, ◌⊎◌, inl, inr, Bool, true, false, cond, eqb, ltb, leb, List, [], ◌∷◌, ◌++◌, length, take, drop, arith}
-use Rattle.std.specs.Prelude.{Contains, filter, nat_lt, nat_le, not, ◌&&◌, ◌||◌}
+use Rattle.std.proofs.Common.{◌≡◌, ◌≢◌, ap, sym, refl, subst, ℕ, ◌≤◌, ◌<◌, ◌⊎◌, inl, inr, Bool, true, false, eqb, ltb, leb, List, [], ◌∷◌, length, arith}
+use Rattle.std.specs.Prelude.{filter, nat_lt, nat_le, not, ◌&&◌, ◌||◌}
 use Rattle.std.specs.List.{AllByRecursion, list_all, list_any, flat_map, enumerate_from}
 use Rattle.std.proofs.lemmas.Bool.{lt-ltb, ltb-true, le-leb, leb-true, eq-eqb, eqb-true, cases_lt, cond_both, and_parts}
 use Rattle.std.proofs.lemmas.List.{take_all, drop_all}
@@ -8,23 +8,22 @@ use Rattle.std.proofs.lemmas.List.FromFn.{length-enumerate_from}
 use Rattle.std.proofs.lemmas.List.Sorted.{IsPermutation-sym}
 use Rattle.trk_base.specs.Numbers.{slot_of}
 use Rattle.late_window.specs.Folding.{Rises, below, from, slots, with_slot}
-use Rattle.late_window.specs.Windows.{Seen, folded, dirty_items, dirty_slots, is_folded}
+use Rattle.late_window.specs.Windows.{folded, dirty_items, dirty_slots, is_folded}
 use Rattle.late_window.proofs.Groups.{SlotsRise, slots_rise}
 use Rattle.late_window.proofs.Cuts.{slots_all, below_rise, from_rise}
 use Rattle.late_window.proofs.Lists.{all_weaker, all_append, all_left, all_right}
 use Rattle.late_window.proofs.Orders.{rises_filter}
-use Rattle.admission_log.specs.declared.settings.Settings.{Settings}
 use Rattle.admission_log.specs.declared.events.Event.{Event}
 use Rattle.admission_log.specs.declared.entries.Entry.{Entry}
 use Rattle.admission_log.specs.Entries.{entries_in, entries_of, slot_in}
 use Rattle.admission_log.specs.EntryOrder.{entry_cmp}
 use Rattle.admission_log.specs.Histories.{History, first, last_of}
-use Rattle.admission_log.proofs.Greatest.{Has, has_left, has_right, has_either, has_filtered, passes_filtered}
+use Rattle.admission_log.proofs.Greatest.{Has, has_right, has_either, has_filtered, passes_filtered}
 use Rattle.tracker_fold.specs.Keys.{key_in}
 use Rattle.tracker_fold.specs.Laws.{in_order}
 use Rattle.tracker_fold.specs.Folds.{AreEntriesOf, IsFilled}
 use Rattle.tracker_engine.specs.Engines.{EntryWindow, with_events}
-use Rattle.tracker_engine.specs.Spans.{entries_from, IsSettled, AreSettled, OpensSpan, IsInSpan, AreSpan}
+use Rattle.tracker_engine.specs.Spans.{entries_from, IsSettled, AreSettled, IsInSpan, AreSpan}
 use Rattle.tracker_engine.proofs.Members.{has_of, of_has, has_moved, all_at, all_above, above_all, all_or, Rise, rise_of, of_rise, rise_filter, fewer}
 use Rattle.tracker_engine.proofs.Entering.{new_entries, first_more, from_more, entries_cut}
 
@@ -115,9 +114,9 @@ module _ (log : History) (es : List Event) (s : ℕ) (within : s ≤ length log.
     rising = of_rise _ (rise_filter test ns (rise_of ns h.rising));
     all = λ n. (
       λ there. (let kept = passes_filtered test n ns (has_of n (filter test ns) there) in let is = (h.all n).0 (of_has n ns kept.0) in
-        (is.0, grown_settled n is.1 (all_above slot_in n (new_entries log es) kept.1))),
+          (is.0, grown_settled n is.1 (all_above slot_in n (new_entries log es) kept.1))),
       λ is. (let was = was_settled n is.1 in
-        of_has n (filter test ns) (has_filtered test n ns (has_of n ns ((h.all n).1 (is.0, was.0))) (above_all slot_in n (new_entries log es) was.1))),
+          of_has n (filter test ns) (has_filtered test n ns (has_of n ns ((h.all n).1 (is.0, was.0))) (above_all slot_in n (new_entries log es) was.1))),
     );
   }
     where
@@ -148,8 +147,10 @@ module _ (log : History) (all : List Entry) (o : AreEntriesOf log all) (w : Entr
     where
       upto : ℕ
       upto = slot_of (last_of log)
+
       over : List Entry
       over = below slot_in upto w.items
+
       to : (n : ℕ) → Has n (filter (λ n. leb low n) (slots slot_in over)) → (low ≤ n) × IsSettled log (length log.events) n
       to n h =
           let kept = passes_filtered (λ n. leb low n) n (slots slot_in over) h in
@@ -159,6 +160,7 @@ module _ (log : History) (all : List Entry) (o : AreEntriesOf log all) (w : Entr
             leb-true low n kept.1,
             whole_settled log n lt (record { entry = x.0; there = of_has x.0 (entries_of log) (kept_in x.0 under.0).0; of_slot = x.2 }),
           )
+
       back : (n : ℕ) → low ≤ n → IsSettled log (length log.events) n → Has n (filter (λ n. leb low n) (slots slot_in over))
       back n ge is =
           let filled = settled_filled log n is in
@@ -214,15 +216,20 @@ module _ (log : History) (all : List Entry) (o : AreEntriesOf log all) (w : Entr
       where
         upto : ℕ
         upto = slot_of (last_of log)
+
         test : Entry → Bool
         test x = ltb (slot_in x) upto && not (is_folded w (slot_in x))
+
         dirty : List Entry
         dirty = dirty_items slot_in w upto
+
         rises : Rises entry_cmp key_in w.items
         rises = subst (Rises entry_cmp key_in) (sym items) (rises_filter entry_cmp key_in (λ y. leb w.low (slot_in y)) all o.rise)
+
         unfolded : (b : Bool) → not b ≡ true → b ≡ false
         unfolded true e = absurd (cc)
         unfolded false e = refl
+
         within_span : (n : ℕ) → Has n (slots slot_in dirty) → Has n spanned
         within_span n h =
             let x = there_of slot_in n dirty h in

@@ -1,11 +1,10 @@
 -- The last state of a window whose folded slots are all that are filled and over.
-use Rattle.std.proofs.Common.{◌≡◌, ◌≢◌, ◌∙◌, ap, sym, refl, subst, ℕ, zero, suc, ◌+◌, ◌≤◌, ◌<◌, ◌⊎◌, inl, inr, Bool, true, false, cond, eqb, ltb, leb, List, [], ◌∷◌, length, map, arith}
-use Rattle.std.specs.Prelude.{filter}
+use Rattle.std.proofs.Common.{◌≡◌, ◌∙◌, ap, sym, refl, ℕ, zero, suc, ◌+◌, ◌≤◌, ◌<◌, inl, inr, true, false, cond, eqb, List, [], ◌∷◌, length, map, arith}
 use Rattle.std.specs.List.{AllByRecursion}
 use Rattle.std.proofs.lemmas.Bool.{lt-ltb, le-ltb, le-leb, lt-leb, eq-eqb, ne_eqb, cases_lt, cases_order}
 use Rattle.late_window.specs.Folding.{at_slot, below, from, stepped, before, after, latest}
 use Rattle.admission_log.proofs.Greatest.{Has}
-use Rattle.tracker_engine.proofs.Members.{Rise, all_at, all_of}
+use Rattle.tracker_engine.proofs.Members.{Rise}
 
 module _ {I : Type 0} (slot : I → ℕ) where
   -- those below the next slot, among those from a slot on
@@ -59,6 +58,7 @@ module _ {I : Type 0} (slot : I → ℕ) where
         later : (ms : List ℕ) → AllByRecursion (λ m. n < m) ms → AllByRecursion (IsBetween lo hi) ms → AllByRecursion (IsBetween (suc n) hi) ms
         later [] h k = tt
         later (m ∷ ms) h k = ((omega (arith, h.0), k.0.1, k.0.2), later ms h.1 k.1)
+
         others : (m : ℕ) → suc n ≤ m → (Has m ns → ⊥) → Has m (n ∷ ns) → ⊥
         others m a none (inl e) = omega (arith, a, e)
         others m a none (inr h) = none h

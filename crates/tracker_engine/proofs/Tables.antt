@@ -1,19 +1,21 @@
 -- What an engine shows where all of its log is settled.
-use Rattle.std.proofs.Common.{◌≡◌, ◌∙◌, ap, sym, refl, subst, ℕ, zero, suc, ◌+◌, ◌-◌, ◌^◌, ◌≤◌, ◌<◌, inl, inr, Bool, true, false, cond, eqb, leb, List, [], ◌∷◌, ◌++◌, length, map, Option, Some, None, arith}
-use Rattle.std.specs.Prelude.{filter, nat_le, slice_get, flat_map, Contains}
+use Rattle.std.proofs.Common.{◌≡◌, ◌∙◌, ap, sym, refl, subst, ℕ, suc, ◌+◌, ◌^◌, ◌≤◌, ◌<◌, Bool, true, false, cond, eqb, leb, List, [], ◌∷◌, length, map, Some, arith}
+use Rattle.std.specs.Prelude.{filter, nat_le, slice_get, flat_map}
 use Rattle.std.specs.Option.{option_map}
 use Rattle.std.specs.List.{AllByRecursion, enumerate_from}
-use Rattle.std.proofs.lemmas.Bool.{eq-eqb, le-leb, leb-true}
+use Rattle.std.proofs.lemmas.Bool.{cond_both, eq-eqb, le-leb, leb-true}
 use Rattle.std.proofs.lemmas.List.Folds.{flat_map-map}
 use Rattle.std.proofs.lemmas.List.Sorted.{IsPermutation-sym}
 use Rattle.trk_base.specs.Numbers.{slot_of}
 use Rattle.plot_geometry.specs.declared.biases.Bias.{Bias}
 use Rattle.plot_geometry.specs.declared.radars.RadarSettings.{RadarSettings}
 use Rattle.plot_geometry.specs.Biases.{bias_of, biased}
+use Rattle.price_form.specs.Certificates.{IsCert}
 use Rattle.price_form.specs.declared.certs.Cert.{Cert}
 use Rattle.late_window.specs.Folding.{at_slot, latest, OutsAt}
 use Rattle.late_window.specs.Windows.{folded, state_of}
 use Rattle.late_window.proofs.Cuts.{at_none}
+use Rattle.late_window.proofs.Lists.{all_append}
 use Rattle.slot_step.specs.declared.certs.KeyedCert.{KeyedCert}
 use Rattle.admission_log.specs.declared.settings.Settings.{Settings}
 use Rattle.admission_log.specs.declared.entries.Entry.{Entry}
@@ -49,6 +51,7 @@ same_biases b k (r ∷ rs) (q ∷ qs) h =
   where
     next_index : (j : ℕ) → k + suc j ≡ k + 1 + j
     next_index j = omega arith
+
     own : Some r ≡ Some (biased q (b (bias_of q) (k + 0))) → bias_of r ≡ b (bias_of q) k
     own e = let same : r ≡ biased q (b (bias_of q) (k + 0)) = cc in let none : k + 0 ≡ k = omega arith in ap bias_of same ∙ ap (b (bias_of q)) none
 
@@ -70,6 +73,20 @@ outs_kept p settings all (o ∷ os) h =
       | true ↦ (h.0, outs_kept p settings all os h.1)
       | false ↦ outs_kept p settings all os h.1
     ]
+
+-- ---- each certificate is whole
+
+few_whole : (cs : List KeyedCert) → AllByRecursion (λ c. IsCert c.cert) cs → AllByRecursion IsCert (map (λ k. k.cert) cs)
+few_whole [] h = tt
+few_whole (c ∷ cs) h = (h.0, few_whole cs h.1)
+
+all_whole : (p : ℕ → Bool) (settings : Settings) (all : List Entry) (os : List (ℕ × List KeyedCert)) → OutsAt next slot_in IsOut (start settings) all (map (λ o. o.0) os) (map (λ o. o.1) os)
+    → AllByRecursion IsCert (flat_map (λ o. map (λ k. k.cert) o.1) (filter (λ o. p o.0) os))
+all_whole p settings all [] h = tt
+all_whole p settings all (o ∷ os) h =
+    cond_both (p o.0) (o ∷ filter (λ o. p o.0) os) (filter (λ o. p o.0) os) (λ l. AllByRecursion IsCert (flat_map (λ o. map (λ k. k.cert) o.1) l))
+    (λ _. all_append IsCert (map (λ k. k.cert) o.1) (flat_map (λ o. map (λ k. k.cert) o.1) (filter (λ o. p o.0) os)) (few_whole o.1 h.0.whole) (all_whole p settings all os h.1))
+    (λ _. all_whole p settings all os h.1)
 
 module _ (settings : Settings) (log : History) (before : ℕ) (e : EngineState) (s : StandsFor settings log (length log.events) before e) where
   abbrev now : ℕ
@@ -97,6 +114,7 @@ module _ (settings : Settings) (log : History) (before : ℕ) (e : EngineState) 
     where
       between : AllByRecursion (IsBetween slot_in next (start settings) all e.window.low now) (folded e.window)
       between = all_of (IsBetween slot_in next (start settings) all e.window.low now) (folded e.window) (λ n h. let is = (s.folded_are.all n).0 (of_has n (folded e.window) h) in (is.0, settled_over log n is.1, filled_at n (settled_filled log n is.1)))
+
       empty : (n : ℕ) → e.window.low ≤ n → n < now → (Has n (folded e.window) → ⊥) → at_slot slot_in n all ≡ []
       empty n ge lt none = at_none slot_in n all (all_of (λ x. slot_in x ≡ n → ⊥) all (λ x h own. none (has_of n (folded e.window) ((s.folded_are.all n).1 (ge, whole_settled log n lt (record { entry = x; there = of_has x (entries_of log) (of_all x h); of_slot = own }))))))
 
@@ -118,13 +136,14 @@ module _ (settings : Settings) (log : History) (before : ℕ) (e : EngineState) 
     rising = of_rise _ (rise_filter test (folded e.window) (rise_of (folded e.window) s.folded_are.rising));
     all = λ n. (
       λ there. (let kept = passes_filtered test n (folded e.window) (has_of n _ there) in let is = (s.folded_are.all n).0 (of_has n (folded e.window) kept.0) in
-        (leb-true low n kept.1, settled_over log n is.1, settled_filled log n is.1)),
+          (leb-true low n kept.1, settled_over log n is.1, settled_filled log n is.1)),
       λ is. of_has n _ (has_filtered test n (folded e.window) (has_of n (folded e.window) ((s.folded_are.all n).1 (omega (arith, s.low, is.0), whole_settled log n is.1 is.2))) (le-leb low n is.0)),
     );
   }
     where
       low : ℕ
       low = low_at settings.window (last_of log)
+
       test : ℕ → Bool
       test n = leb low n
 
@@ -134,10 +153,16 @@ module _ (settings : Settings) (log : History) (before : ℕ) (e : EngineState) 
     where
       low : ℕ
       low = low_at settings.window (last_of log)
+
       kept : List (ℕ × List KeyedCert)
       kept = filter (λ o. nat_le low o.0) e.window.outs
+
       found : AreCertificatesFrom settings log low (map (λ o. o.1) kept)
       found = certificates_are settings log all s.entries.in_order low (filter (nat_le low) (folded e.window)) are_filled (map (λ o. o.1) kept)
           (subst (λ ns. OutsAt next slot_in IsOut (start settings) all ns (map (λ o. o.1) kept)) (slots_kept (nat_le low) e.window.outs) (outs_kept (nat_le low) settings all e.window.outs s.entries.outs))
+
       all_is : certs ≡ flat_map (map (λ k. k.cert)) (map (λ o. o.1) kept)
       all_is = is ∙ (λ i. flat_map (λ o. map (λ k. k.cert) o.1) (filter (λ o. nat_le (low_at ((s.settings_are i).window) (s.last_is i)) o.0) e.window.outs)) ∙ sym (flat_map-map (map (λ k. k.cert)) (λ o. o.1) kept)
+
+  pub certs_whole : (certs : List Cert) → certs ≡ flat_map (λ o. map (λ k. k.cert) o.1) (filter (λ o. nat_le (low_at e.settings.window e.last) o.0) e.window.outs) → AllByRecursion IsCert certs
+  certs_whole certs is = subst (AllByRecursion IsCert) (sym is) (all_whole (nat_le (low_at e.settings.window e.last)) settings all e.window.outs s.entries.outs)

@@ -73,11 +73,7 @@ pub fn certs_from(
 }
 
 // Puts the certificates of a slot after others.
-fn append_certs(
-    alloc: Global,
-    told: &[KeyedCert],
-    certs: &mut Vec<Cert>,
-) -> Result<(), NoMemory>
+fn append_certs(alloc: Global, told: &[KeyedCert], certs: &mut Vec<Cert>) -> Result<(), NoMemory>
     ensures { OnOk result (certs.new.items ≡ certs.old.items ++ map (λ k. k.cert) told.now) }
 {
     for keyed in told {

@@ -1,12 +1,12 @@
-use Rattle.std.proofs.Common.{◌≡◌, ◌∙◌, ap, sym, subst, length, map}
+use Rattle.std.proofs.Common.{◌∙◌, ap, sym, subst, length, map}
 use Rattle.std.specs.Prelude.{filter, flat_map, nat_le}
 use Rattle.late_window.specs.Folding.{Rises}
 use Rattle.admission_log.specs.EntryOrder.{entry_cmp}
 use Rattle.admission_log.specs.Histories.{low_at}
 use Rattle.tracker_fold.specs.Keys.{key_in}
 use Rattle.tracker_engine.specs.Engines.{StandsFor}
-use Rattle.tracker_engine.proofs.Tables.{certs_shown}
-use Rattle.tracker_engine.proofs.Editions.{items_rise, shown_now, all_biases, all_services, own_numbers, are_earlier, old_rise, shown_is, edition_is}
+use Rattle.tracker_engine.proofs.Tables.{certs_shown, certs_whole}
+use Rattle.tracker_engine.proofs.Editions.{items_rise, shown_now, all_biases, all_services, own_numbers, are_earlier, old_rise, shown_is, edition_is, all_certs}
 use Rattle.tracker_engine.proofs.engine.Engine.edition.Goals as goal
 
 pub biases_at-requires-clause-rising : goal.biases_at-requires-clause-rising
@@ -53,3 +53,10 @@ returns-clause-shown c settings log before s =
     let own = subst (StandsFor settings log (length log.events) before) (sym c.self.view_is) s in
     let are = shown_now settings log before _ own _ _ _ _ _ _ _ _ c.deref.ensures (c.deref-2.ensures.value ∙ c.in_ok-biases.ensures) c.as_slice.ensures c.state-state.ensures c.slot_of.ensures c.items.ensures c.deref-3.ensures.value c.deref-4.ensures.value in
     shown_is settings log before _ _ _ _ _ _ are c.build.result c.build.ensures.shown
+
+pub returns-clause-whole : goal.returns-clause-whole
+returns-clause-whole c settings log before s =
+    let own = subst (StandsFor settings log (length log.events) before) (sym c.self.view_is) s in
+    let low = c.low.ensures ∙ ap (λ e. low_at e.settings.window e.last) (sym c.self.view_is) in
+    let certs = certs_whole settings log before _ own c.in_ok-certs.certs.items (c.in_ok-certs.ensures ∙ (λ i. flat_map (λ o. map (λ k. k.cert) o.1) (filter (λ o. nat_le (low i) o.0) (c.outs.ensures i)))) in
+    all_certs c.in_ok-certs.certs.items c.build.result certs c.build.ensures.certs
