@@ -1,3 +1,4 @@
+pub mod Advancing
 pub mod Beginning
 pub mod Editions
 pub mod Entering
