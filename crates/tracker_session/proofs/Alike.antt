@@ -15,7 +15,7 @@ use Rattle.session_script.specs.Scripts.{read_of}
 use Rattle.tracker_session.specs.declared.counts.Counts.{Counts}
 use Rattle.tracker_session.specs.Counting.{counts_of}
 use Rattle.tracker_session.specs.Inputs.{IsInput, tells_biases}
-use Rattle.tracker_session.specs.Replay.{Replays}
+use Rattle.tracker_session.specs.Replay.{IsPrices, Replays}
 use Rattle.tracker_session.specs.ReplayGives.{ReplaysPartly}
 
 pub record BothLong (a b : List ℕ) : Type 0 where
@@ -46,24 +46,33 @@ tells_alike a b h =
     let begins = λ (xs : List ℕ). take-take 4 place_limit xs (omega arith) in
     ap (pointwise nat_eq (77 ∷ 82 ∷ 84 ∷ 50 ∷ [])) (sym (begins a) ∙ ap (take 4) h.prefix ∙ begins b)
 
--- they are replayed alike
-pub replays_alike : (settings : admission.Settings) (a b output : List ℕ) (counts : Counts) (fault : Option ℕ) → Alike a b → Replays settings a output counts fault → Replays settings b output counts fault
-replays_alike settings a b output counts fault (inl e) r = subst (λ (o : List ℕ). Replays settings o output counts fault) e r
-replays_alike settings a b output counts fault (inr h) r = record {
-  header = r.header;
-  start = r.start;
-  items = r.items;
-  reading = reading_alike a b r.header r.start r.items fault h r.reading;
-  log = r.log;
-  log_is = r.log_is;
-  output_is = r.output_is;
-  counts_are = r.counts_are ∙ ap (λ tells. counts_of tells r.items r.log) (tells_alike a b h);
-}
+-- they are replayed alike, with the same prices
+pub record Priced (settings : admission.Settings) (octets output : List ℕ) (counts : Counts) (fault : Option ℕ) (prices : List ℕ) : Type 0 where
+  pub replays : Replays settings octets output counts fault
+  pub prices_are : IsPrices settings replays.log prices
+
+pub priced_alike : (settings : admission.Settings) (a b output : List ℕ) (counts : Counts) (fault : Option ℕ) (prices : List ℕ) → Alike a b → Priced settings a output counts fault prices → Priced settings b output counts fault prices
+priced_alike settings a b output counts fault prices (inl e) p = subst (λ (o : List ℕ). Priced settings o output counts fault prices) e p
+priced_alike settings a b output counts fault prices (inr h) p =
+    let r = p.replays in
+    record {
+      replays = record {
+        header = r.header;
+        start = r.start;
+        items = r.items;
+        reading = reading_alike a b r.header r.start r.items fault h r.reading;
+        log = r.log;
+        log_is = r.log_is;
+        output_is = r.output_is;
+        counts_are = r.counts_are ∙ ap (λ tells. counts_of tells r.items r.log) (tells_alike a b h);
+      };
+      prices_are = p.prices_are;
+    }
 
 -- and alike where the replay broke off
-pub partly_alike : (settings : admission.Settings) (a b output : List ℕ) → Alike a b → ReplaysPartly settings a output → ReplaysPartly settings b output
-partly_alike settings a b output (inl e) r = subst (λ (o : List ℕ). ReplaysPartly settings o output) e r
-partly_alike settings a b output (inr h) r = record {
+pub partly_alike : (settings : admission.Settings) (a b output prices : List ℕ) → Alike a b → ReplaysPartly settings a output prices → ReplaysPartly settings b output prices
+partly_alike settings a b output prices (inl e) r = subst (λ (o : List ℕ). ReplaysPartly settings o output prices) e r
+partly_alike settings a b output prices (inr h) r = record {
   header = r.header;
   start = r.start;
   items = r.items;
@@ -77,6 +86,11 @@ partly_alike settings a b output (inr h) r = record {
   n = r.n;
   within = r.within;
   part = r.part;
+  priced = r.priced;
+  priced_is = r.priced_is;
+  m = r.m;
+  within_prices = r.within_prices;
+  part_of_prices = r.part_of_prices;
 }
 
 -- settings that are one, or both too long, have one answer

@@ -18,8 +18,8 @@ use Rattle.session_script.proofs.Following.{after_pick, at_end, ended_so, gave_u
 use Rattle.tracker_session.specs.declared.counts.Counts.{Counts}
 use Rattle.tracker_session.specs.declared.taking.Run.{Run}
 use Rattle.tracker_session.specs.Counting.{counts_of}
-use Rattle.tracker_session.specs.Picture.{IsEdition}
-use Rattle.tracker_session.specs.Replay.{IsReplayLog, empty_log, log_with}
+use Rattle.edition_form.specs.Prices.{ArePricesOf}
+use Rattle.tracker_session.specs.Replay.{IsEditionAt, IsReplayLog, empty_log, log_with, newest}
 use Rattle.tracker_session.specs.ReplayScript.{Added, EditionOf, IsEndAt, edition_script, end_at, items_script}
 use Rattle.tracker_session.specs.Taking.{HasTaken, StandsFor, Takes, shows}
 use Rattle.tracker_session.proofs.Logs.{log_push}
@@ -51,8 +51,8 @@ next_taken xs i d lt = take_more (items_of xs) i (item_of d) (omega (arith, lt, 
 
 -- ---- the run behind one more item
 
-pub stands_more : (settings : Settings) (tells : Bool) (start : ℕ) (xs : List Held) (i : ℕ) (d : Held) (edition : _) (run run' : Run) → i < length xs → StandsFor run settings tells start (take i (items_of xs)) → Takes settings (item_of (get_or xs i d)) edition run run' → StandsFor run' settings tells start (take (i + 1) (items_of xs))
-stands_more settings tells start xs i d edition run run' lt h t =
+pub stands_more : (settings : Settings) (tells : Bool) (start : ℕ) (xs : List Held) (i : ℕ) (d : Held) (shown : Bool) (run run' : Run) → i < length xs → StandsFor run settings tells start (take i (items_of xs)) → Takes settings (item_of (get_or xs i d)) shown run run' → StandsFor run' settings tells start (take (i + 1) (items_of xs))
+stands_more settings tells start xs i d shown run run' lt h t =
     let next = next_taken xs i d lt in
     record {
       log = subst (λ (items : List Item). IsReplayLog settings start items run'.log) (sym next) (log_push settings (empty_log start) (take i (items_of xs)) run.log run'.log (item_of (get_or xs i d)) t.added h.log t.has.adds t.has.log);
@@ -73,11 +73,12 @@ module _ (settings : Settings) (next : History → Script) (run run' : Run) (ite
       here (subst (λ (b : Bool). Follows (edition_script settings (log_with run.log added) b (items_script settings next (log_with run.log added) items)) end old new) (sym silent) behind)
 
   -- it gives this edition
-  pub shown_item : (octets : List ℕ) → shows added ≡ true → IsEdition settings run'.log octets → Follows (writes places.Output octets (items_script settings next run'.log items)) end old new → Follows (items_script settings next run.log xs) end old new
-  shown_item octets shown edition f =
-      let one = subst (λ (log : History). IsEdition settings log octets) has.log edition in
-      let behind = subst (λ (log : History). Follows (writes places.Output octets (items_script settings next log items)) end old new) has.log f in
-      let picked = after_pick (λ (e : EditionOf settings (log_with run.log added)). writes places.Output e.octets (items_script settings next (log_with run.log added) items)) (record { octets = octets; is = one }) end old new behind in
+  pub shown_item : (octets prices : List ℕ) → shows added ≡ true → IsEditionAt settings run'.log (newest run'.log) octets → ArePricesOf settings run'.log (newest run'.log) prices → Follows (writes places.Output octets (writes places.Prices prices (items_script settings next run'.log items))) end old new → Follows (items_script settings next run.log xs) end old new
+  shown_item octets prices shown edition priced f =
+      let one = subst (λ (log : History). IsEditionAt settings log (newest log) octets) has.log edition in
+      let its_prices = subst (λ (log : History). ArePricesOf settings log (newest log) prices) has.log priced in
+      let behind = subst (λ (log : History). Follows (writes places.Output octets (writes places.Prices prices (items_script settings next log items))) end old new) has.log f in
+      let picked = after_pick (λ (e : EditionOf settings (log_with run.log added)). writes places.Output e.octets (writes places.Prices e.prices (items_script settings next (log_with run.log added) items))) (record { octets = octets; is = one; prices = prices; priced = its_prices }) end old new behind in
       here (subst (λ (b : Bool). Follows (edition_script settings (log_with run.log added) b (items_script settings next (log_with run.log added) items)) end old new) (sym shown) picked)
 
 -- ---- the end

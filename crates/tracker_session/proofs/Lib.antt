@@ -1,4 +1,5 @@
 pub mod Alike
+pub mod Datagrams
 pub mod Deciding
 pub mod Faults
 pub mod Giving
@@ -6,11 +7,10 @@ pub mod GivingItems
 pub mod Inputs
 pub mod Items
 pub mod Logs
+pub mod Nexts
 pub mod Numerals
 pub mod OneEnd
 pub mod Outputs
-pub mod Packings
-pub mod Pictures
 pub mod Provings
 pub mod Refusing
 pub mod Replayed

@@ -1,5 +1,5 @@
 -- A line has one end on what the places hold, and one output.
-use Rattle.std.proofs.Common.{◌≡◌, ◌∙◌, ap, inl, inr, sym, subst, ℕ, List}
+use Rattle.std.proofs.Common.{◌≡◌, ◌∙◌, ap, inl, inr, sym, subst, ℕ, List, [], ◌++◌}
 use Rattle.std.specs.Prelude.{Option, Some, None, Ok, Err, Result}
 use Rattle.io_traits.specs.declared.host.Place.{Place}
 use Rattle.io_traits.specs.declared.host.Place.TheVariants as places
@@ -56,33 +56,33 @@ module _ (held : Place → List ℕ) (bound bound' : List Binding) (gets gets' :
         h.nothing places.Output ∙ sym (k.nothing places.Output),
       )
 
-  never_differs : (settings input output : List ℕ) (b c : List Binding) (x y : Place → List ℕ) (p q : Option End) → IsRefused settings (Holds held) b x p → IsReplayed settings input output (Holds held) c y q → ⊥
-  never_differs settings input output b c x y p q h k =
+  never_differs : (settings input output prices : List ℕ) (b c : List Binding) (x y : Place → List ℕ) (p q : Option End) → IsRefused settings (Holds held) b x p → IsReplayed settings input output prices (Holds held) c y q → ⊥
+  never_differs settings input output prices b c x y p q h k =
       let bad = subst (λ (d : List ℕ). IsSettingsAnswer d (Err h.fault)) h.held h.bad in
       never_both k.given h.fault (only_answer (held places.Settings) (Ok k.given) (Err h.fault) (good k.given k.has) bad)
 
-  replayed_twice : (settings input output : List ℕ) → IsReplayed settings input output (Holds held) bound gets (Some end) → IsReplayed settings input output (Holds held) bound' gets' (Some end') → Same end end' bound bound' gets gets'
-  replayed_twice settings input output h k =
+  replayed_twice : (settings input output prices : List ℕ) → IsReplayed settings input output prices (Holds held) bound gets (Some end) → IsReplayed settings input output prices (Holds held) bound' gets' (Some end') → Same end end' bound bound' gets gets'
+  replayed_twice settings input output prices h k =
       let given = same_settings h.given k.given (only_answer (held places.Settings) (Ok h.given) (Ok k.given) (good h.given h.has) (good k.given k.has)) in
-      let first = subst (λ (o : List ℕ). Replays h.given o (gets places.Output) h.counts h.fault) h.held h.replays in
-      let second = subst (λ (s : admission.Settings). Replays s (held places.Input) (gets' places.Output) k.counts k.fault) (sym given) (subst (λ (o : List ℕ). Replays k.given o (gets' places.Output) k.counts k.fault) k.held k.replays) in
-      let same = one_replay h.given (held places.Input) (gets places.Output) (gets' places.Output) h.counts k.counts h.fault k.fault first second in (
+      let first = subst (λ (o : List ℕ). Replays h.given o h.written h.counts h.fault) h.held h.replays in
+      let second = subst (λ (s : admission.Settings). Replays s (held places.Input) k.written k.counts k.fault) (sym given) (subst (λ (o : List ℕ). Replays k.given o k.written k.counts k.fault) k.held k.replays) in
+      let same = one_replay h.given (held places.Input) h.written k.written h.counts k.counts h.fault k.fault first second in (
         same_end end (end_at h.fault h.counts) h.end_is ∙ (λ i. end_at (same.2 i) (same.1 i)) ∙ sym (same_end end' (end_at k.fault k.counts) k.end_is),
         h.bound_is ∙ sym k.bound_is,
-        same.0,
+        h.got places.Output ∙ ap (λ x. x ++ []) same.0 ∙ sym (k.got places.Output),
       )
 
-  replays_once : (settings input output : List ℕ) → ReplayGives settings input output (Holds held) bound gets (Some end) → ReplayGives settings input output (Holds held) bound' gets' (Some end') → Same end end' bound bound' gets gets'
-  replays_once settings input output (inl h) (inl k) = refused_twice settings h k
-  replays_once settings input output (inl h) (inr (inl k)) = absurd (never_differs settings input output bound bound' gets gets' (Some end) (Some end') h k)
-  replays_once settings input output (inr (inl h)) (inl k) = absurd (never_differs settings input output bound' bound gets' gets (Some end') (Some end) k h)
-  replays_once settings input output (inr (inl h)) (inr (inl k)) = replayed_twice settings input output h k
-  replays_once settings input output (inr (inr (inl h))) k = absurd (never_none end h.broken)
-  replays_once settings input output (inr (inr (inr h))) k = absurd (never_none end h.broken)
-  replays_once settings input output (inl h) (inr (inr (inl k))) = absurd (never_none end' k.broken)
-  replays_once settings input output (inl h) (inr (inr (inr k))) = absurd (never_none end' k.broken)
-  replays_once settings input output (inr (inl h)) (inr (inr (inl k))) = absurd (never_none end' k.broken)
-  replays_once settings input output (inr (inl h)) (inr (inr (inr k))) = absurd (never_none end' k.broken)
+  replays_once : (settings input output prices : List ℕ) → ReplayGives settings input output prices (Holds held) bound gets (Some end) → ReplayGives settings input output prices (Holds held) bound' gets' (Some end') → Same end end' bound bound' gets gets'
+  replays_once settings input output prices (inl h) (inl k) = refused_twice settings h k
+  replays_once settings input output prices (inl h) (inr (inl k)) = absurd (never_differs settings input output prices bound bound' gets gets' (Some end) (Some end') h k)
+  replays_once settings input output prices (inr (inl h)) (inl k) = absurd (never_differs settings input output prices bound' bound gets' gets (Some end') (Some end) k h)
+  replays_once settings input output prices (inr (inl h)) (inr (inl k)) = replayed_twice settings input output prices h k
+  replays_once settings input output prices (inr (inr (inl h))) k = absurd (never_none end h.broken)
+  replays_once settings input output prices (inr (inr (inr h))) k = absurd (never_none end h.broken)
+  replays_once settings input output prices (inl h) (inr (inr (inl k))) = absurd (never_none end' k.broken)
+  replays_once settings input output prices (inl h) (inr (inr (inr k))) = absurd (never_none end' k.broken)
+  replays_once settings input output prices (inr (inl h)) (inr (inr (inl k))) = absurd (never_none end' k.broken)
+  replays_once settings input output prices (inr (inl h)) (inr (inr (inr k))) = absurd (never_none end' k.broken)
 
   checks_once : (prices : List ℕ) → CheckGives prices (Holds held) bound gets (Some end) → CheckGives prices (Holds held) bound' gets' (Some end') → Same end end' bound bound' gets gets'
   checks_once prices (inl h) (inl k) =
@@ -114,7 +114,7 @@ module _ (held : Place → List ℕ) (bound bound' : List Binding) (gets gets' :
   )
 
 pub one_end : (line : Line) (held : Place → List ℕ) (bound bound' : List Binding) (gets gets' : Place → List ℕ) (end end' : End) → CommandGives line (λ p octets. octets ≡ held p) bound gets (Some end) → CommandGives line (λ p octets. octets ≡ held p) bound' gets' (Some end') → (end ≡ end') × (bound ≡ bound') × (gets places.Output ≡ gets' places.Output)
-one_end (replay settings input output prices workers) held bound bound' gets gets' end end' h k = replays_once held bound bound' gets gets' end end' settings input output h k
+one_end (replay settings input output prices workers) held bound bound' gets gets' end end' h k = replays_once held bound bound' gets gets' end end' settings input output prices h k
 one_end (check prices) held bound bound' gets gets' end end' h k = checks_once held bound bound' gets gets' end end' prices h k
 one_end (scene seed aircraft seconds late output) held bound bound' gets gets' end end' h k = writes_once held bound bound' gets gets' end end' _ output h k
 one_end other held bound bound' gets gets' end end' h k = refused_once held bound bound' gets gets' end end' h k

@@ -1,26 +1,29 @@
 -- The editions of a log, one after the other, and how they grow with it.
-use Rattle.std.proofs.Common.{◌≡◌, ◌∙◌, ap, sym, refl, subst, ℕ, ◌+◌, ◌<◌, List, [], ◌∷◌, ◌++◌, length, arith, append_assoc, append-nil}
-use Rattle.std.specs.Prelude.{Option, None}
-use Rattle.std.specs.List.{AllByRecursion, AllZip, concat, cons_option, enumerate_from, filter_map, flat_map}
+use Rattle.std.proofs.Common.{◌≡◌, ◌∙◌, ap, sym, refl, subst, ℕ, ◌+◌, ◌-◌, ◌<◌, List, [], ◌∷◌, ◌++◌, length, arith, append_assoc, append-nil}
+use Rattle.std.specs.Prelude.{Option, None, fold}
+use Rattle.std.specs.List.{AllByRecursion, AllZip, concat, cons_option, enumerate_from, filter_map}
 use Rattle.std.specs.Option.{option_map}
-use Rattle.std.proofs.lemmas.List.{length_push, take_all, take-append-le}
+use Rattle.std.proofs.lemmas.List.{length_push, take-append-le}
 use Rattle.std.proofs.lemmas.List.Elements.{filter_map-append}
-use Rattle.asterix_frame.proofs.Packings.{one_packing}
+use Rattle.std.proofs.lemmas.List.Sums.{fold-append}
 use Rattle.admission_log.specs.declared.settings.Settings.{Settings}
 use Rattle.admission_log.specs.declared.events.Event.{Event}
 use Rattle.admission_log.specs.declared.events.Event.TheVariants.{Deliver, Tick, Publish, Bias}
 use Rattle.admission_log.specs.Histories.{History, appended, first, tick_in}
-use Rattle.tracker_session.specs.Picture.{block_of, AreBlocksOf, IsEdition}
-use Rattle.tracker_session.specs.Replay.{IsEditionAt, IsOutput, cut_in, cuts_of, editions_of}
+use Rattle.edition_form.specs.Certificates.{AreLogCertificates}
+use Rattle.edition_form.specs.Datagrams.{AreDatagramsOf}
+use Rattle.edition_form.specs.Prices.{ArePricesOf}
+use Rattle.tracker_session.specs.Replay.{AreOfAll, IsEditionAt, IsOutput, cut_before, cut_in, cuts_of, editions_of, last_cut, newest}
+use Rattle.tracker_session.proofs.Datagrams.{one_list_of_datagrams}
 use Rattle.tracker_session.proofs.Logs.{LogGoesOn, with_events}
 
--- After the output of a log the piece makes that of a longer one.
-abbrev pub Grows : Settings → History → History → List ℕ → Type 0
-Grows settings log longer piece = (output : List ℕ) → IsOutput settings log output → IsOutput settings longer (output ++ piece)
+-- After what is of all editions of a log the piece makes that of a longer one.
+abbrev pub Grows : (History → ℕ × ℕ → List ℕ → Type 0) → History → History → List ℕ → Type 0
+Grows AreOf log longer piece = (octets : List ℕ) → AreOfAll AreOf log octets → AreOfAll AreOf longer (octets ++ piece)
 
--- records have one list of blocks
-pub blocks_same : (records : List (List ℕ)) (a b : List ℕ) → AreBlocksOf records a → AreBlocksOf records b → a ≡ b
-blocks_same records a b h k = h.encoded ∙ ap (flat_map block_of) (one_packing h.groups k.groups h.filled k.filled (h.all ∙ sym k.all)) ∙ sym k.encoded
+-- what is of an edition of a log still is of a longer one
+abbrev pub IsKept : (History → ℕ × ℕ → List ℕ → Type 0) → Type 0
+IsKept AreOf = (log : History) (more : List Event) (edition : ℕ × ℕ) (octets : List ℕ) → edition.1 < 1 + length log.events → AreOf log edition octets → AreOf (with_events log more) edition octets
 
 -- ---- pieces, one for each thing
 
@@ -96,49 +99,94 @@ numbered_within end n (cut ∷ cuts) h = (h.0, numbered_within end (n + 1) cuts 
 first_same : (log : History) (more : List Event) (cut : ℕ) → cut < 1 + length log.events → first cut (with_events log more) ≡ first cut log
 first_same log more cut within = (λ i. record { start = log.start; events = take-append-le cut log.events more (omega (arith, within)) i })
 
-editions_kept : (settings : Settings) (log : History) (more : List Event) (pieces : List (List ℕ)) → AllZip (IsEditionAt settings log) (editions_of log) pieces → AllZip (IsEditionAt settings (with_events log more)) (editions_of log) pieces
-editions_kept settings log more pieces h =
-    zip_since (λ (edition : ℕ × ℕ). edition.1 < 1 + length log.events) (IsEditionAt settings log) (IsEditionAt settings (with_events log more))
-    (λ edition piece within is. subst (λ (l : History). IsEdition settings l piece) (sym (first_same log more edition.1 within)) is)
-    (editions_of log) pieces (numbered_within (1 + length log.events) 1 (cuts_of log) (cuts_within 1 log.events)) h
+-- ---- the datagrams and the prices of an edition
 
--- ---- the output of a longer log
-
--- a tick gives one more edition, that of the log with it
-pub output_tick : (settings : Settings) (log : History) (time : ℕ) (piece octets : List ℕ) → IsEdition settings (appended log (Tick time)) piece → IsOutput settings log octets → IsOutput settings (appended log (Tick time)) (octets ++ piece)
-output_tick settings log time piece octets edition h =
-    let longer = appended log (Tick time) in
-    let end = 1 + length log.events in
-    let all : first end longer ≡ longer = (λ i. record { start = log.start; events = take_all end longer.events (omega (arith, length_push log.events (Tick time))) i }) in
-    let last : IsEditionAt settings longer (1 + length (cuts_of log), end) piece = subst (λ (l : History). IsEdition settings l piece) (sym all) edition in
-    let grown = zip_push (IsEditionAt settings longer) (editions_of log) h.pieces (1 + length (cuts_of log), end) piece (editions_kept settings log (Tick time ∷ []) h.pieces h.editions) last in
+pub output_kept : (settings : Settings) → IsKept (IsEditionAt settings)
+output_kept settings log more edition octets within h =
+    let longer = with_events log more in
+    let before : cut_before log edition.1 ≡ cut_before longer edition.1 = ap last_cut (sym (first_same log more (edition.1 - 1) (omega (arith, within)))) in
     record {
-      pieces = h.pieces ++ piece ∷ [];
-      editions = subst (λ (es : List (ℕ × ℕ)). AllZip (IsEditionAt settings longer) es (h.pieces ++ piece ∷ [])) (sym (editions_more log (Tick time ∷ []))) grown;
-      whole = ap (λ t. t ++ piece) h.whole ∙ ap (λ t. concat h.pieces ++ t) (sym (append-nil piece)) ∙ sym (concat_append h.pieces (piece ∷ []));
-    }
-
--- any other event gives none
-pub output_silent : (settings : Settings) (log : History) (event : Event) (octets : List ℕ) → tick_in event ≡ None → IsOutput settings log octets → IsOutput settings (appended log event) octets
-output_silent settings log event octets none h =
-    let cuts : filter_map cut_in (enumerate_from (1 + length log.events) (event ∷ [])) ≡ [] = ap (λ (t : Option ℕ). cons_option (option_map (λ time. 1 + length log.events) t) []) none in
-    let same : editions_of (appended log event) ≡ editions_of log = editions_more log (event ∷ []) ∙ ap (λ cs. editions_of log ++ enumerate_from (1 + length (cuts_of log)) cs) cuts ∙ append-nil (editions_of log) in
-    record {
-      pieces = h.pieces;
-      editions = subst (λ (es : List (ℕ × ℕ)). AllZip (IsEditionAt settings (appended log event)) es h.pieces) (sym same) (editions_kept settings log (event ∷ []) h.pieces h.editions);
+      datagrams = h.datagrams;
+      are = subst (λ (l : History). AreDatagramsOf settings l (cut_before longer edition.1) edition.0 h.datagrams) (sym (first_same log more edition.1 within)) (subst (λ (b : ℕ). AreDatagramsOf settings (first edition.1 log) b edition.0 h.datagrams) before h.are);
       whole = h.whole;
     }
 
--- what gives nothing
-pub nothing_given : (settings : Settings) (log longer : History) → ((output : List ℕ) → IsOutput settings log output → IsOutput settings longer output) → Grows settings log longer []
-nothing_given settings log longer same output h = subst (λ (octets : List ℕ). IsOutput settings longer octets) (sym (append-nil output)) (same output h)
+pub prices_kept : (settings : Settings) → IsKept (ArePricesOf settings)
+prices_kept settings log more edition octets within h = record {
+  certs = h.certs;
+  certificates = subst (λ (l : History). AreLogCertificates settings l h.certs) (sym (first_same log more edition.1 within)) h.certificates;
+  octets_are = h.octets_are;
+}
 
--- one piece after the other
-pub grows_on : (settings : Settings) (log mid longer : History) (a b : List ℕ) → Grows settings log mid a → Grows settings mid longer b → Grows settings log longer (a ++ b)
-grows_on settings log mid longer a b h k output is = subst (λ (octets : List ℕ). IsOutput settings longer octets) (append_assoc output a b) (k (output ++ a) (h output is))
+-- ---- cuts of a log with one more event
+
+pub cuts_tick : (log : History) (time : ℕ) → cuts_of (appended log (Tick time)) ≡ cuts_of log ++ (1 + length log.events) ∷ []
+cuts_tick log time = cuts_more log (Tick time ∷ [])
+
+pub cuts_still : (log : History) (event : Event) → tick_in event ≡ None → cuts_of (appended log event) ≡ cuts_of log
+cuts_still log event none =
+    let cuts : filter_map cut_in (enumerate_from (1 + length log.events) (event ∷ [])) ≡ [] = ap (λ (t : Option ℕ). cons_option (option_map (λ time. 1 + length log.events) t) []) none in
+    cuts_more log (event ∷ []) ∙ ap (λ cs. cuts_of log ++ cs) cuts ∙ append-nil (cuts_of log)
+
+-- the last of some numbers is one of them, or the first that is given
+last_among : (P : ℕ → Type 0) (a : ℕ) (xs : List ℕ) → P a → AllByRecursion P xs → P (fold (λ before cut. cut) a xs)
+last_among P a [] h k = h
+last_among P a (x ∷ xs) h k = last_among P x xs k.0 k.1
+
+pub last_within : (log : History) → last_cut log < 1 + length log.events
+last_within log = last_among (λ cut. cut < 1 + length log.events) 0 (cuts_of log) (omega arith) (cuts_within 1 log.events)
+
+pub last_tick : (log : History) (time : ℕ) → last_cut (appended log (Tick time)) ≡ length (appended log (Tick time)).events
+last_tick log time =
+    let folded : last_cut (appended log (Tick time)) ≡ 1 + length log.events = ap (fold (λ before cut. cut) 0) (cuts_tick log time) ∙ fold-append (λ before cut. cut) 0 (cuts_of log) ((1 + length log.events) ∷ []) in
+    omega (arith, folded, length_push log.events (Tick time))
+
+pub newest_is : (log : History) (time : ℕ) → newest (appended log (Tick time)) ≡ (1 + length (cuts_of log), 1 + length log.events)
+newest_is log time =
+    let number : length (cuts_of (appended log (Tick time))) ≡ 1 + length (cuts_of log) = omega (arith, ap length (cuts_tick log time), length_push (cuts_of log) (1 + length log.events)) in
+    let cut : length (log.events ++ Tick time ∷ []) ≡ 1 + length log.events = omega (arith, length_push log.events (Tick time)) in
+    (λ i. (number i, cut i))
+
+-- ---- what is of all editions of a longer log
+
+module _ (AreOf : History → ℕ × ℕ → List ℕ → Type 0) (kept : IsKept AreOf) where
+  editions_kept : (log : History) (more : List Event) (pieces : List (List ℕ)) → AllZip (AreOf log) (editions_of log) pieces → AllZip (AreOf (with_events log more)) (editions_of log) pieces
+  editions_kept log more pieces h =
+      zip_since (λ (edition : ℕ × ℕ). edition.1 < 1 + length log.events) (AreOf log) (AreOf (with_events log more)) (kept log more)
+      (editions_of log) pieces (numbered_within (1 + length log.events) 1 (cuts_of log) (cuts_within 1 log.events)) h
+
+  -- a tick gives one more edition, the newest of the log with it
+  pub more_at_tick : (log : History) (time : ℕ) (piece octets : List ℕ) → AreOf (appended log (Tick time)) (newest (appended log (Tick time))) piece → AreOfAll AreOf log octets → AreOfAll AreOf (appended log (Tick time)) (octets ++ piece)
+  more_at_tick log time piece octets newly h =
+      let longer = appended log (Tick time) in
+      let last : AreOf longer (1 + length (cuts_of log), 1 + length log.events) piece = subst (λ (edition : ℕ × ℕ). AreOf longer edition piece) (newest_is log time) newly in
+      let grown = zip_push (AreOf longer) (editions_of log) h.pieces (1 + length (cuts_of log), 1 + length log.events) piece (editions_kept log (Tick time ∷ []) h.pieces h.editions) last in
+      record {
+        pieces = h.pieces ++ piece ∷ [];
+        editions = subst (λ (es : List (ℕ × ℕ)). AllZip (AreOf longer) es (h.pieces ++ piece ∷ [])) (sym (editions_more log (Tick time ∷ []))) grown;
+        whole = ap (λ t. t ++ piece) h.whole ∙ ap (λ t. concat h.pieces ++ t) (sym (append-nil piece)) ∙ sym (concat_append h.pieces (piece ∷ []));
+      }
+
+  -- any other event gives none
+  pub none_more : (log : History) (event : Event) (octets : List ℕ) → tick_in event ≡ None → AreOfAll AreOf log octets → AreOfAll AreOf (appended log event) octets
+  none_more log event octets none h = record {
+    pieces = h.pieces;
+    editions = subst (λ (cuts : List ℕ). AllZip (AreOf (appended log event)) (enumerate_from 1 cuts) h.pieces) (sym (cuts_still log event none)) (editions_kept log (event ∷ []) h.pieces h.editions);
+    whole = h.whole;
+  }
+
+  -- what gives nothing
+  pub nothing_given : (log longer : History) → ((octets : List ℕ) → AreOfAll AreOf log octets → AreOfAll AreOf longer octets) → Grows AreOf log longer []
+  nothing_given log longer same octets h = subst (λ (o : List ℕ). AreOfAll AreOf longer o) (sym (append-nil octets)) (same octets h)
+
+  -- one piece after the other
+  pub grows_on : (log mid longer : History) (a b : List ℕ) → Grows AreOf log mid a → Grows AreOf mid longer b → Grows AreOf log longer (a ++ b)
+  grows_on log mid longer a b h k octets is = subst (λ (o : List ℕ). AreOfAll AreOf longer o) (append_assoc octets a b) (k (octets ++ a) (h octets is))
+
+-- ---- there is one output
 
 one_edition : (settings : Settings) (log : History) (edition : ℕ × ℕ) (a b : List ℕ) → IsEditionAt settings log edition a → IsEditionAt settings log edition b → a ≡ b
-one_edition settings log edition a b h k = blocks_same _ a b h k
+one_edition settings log edition a b h k = h.whole ∙ ap concat (one_list_of_datagrams settings (first edition.1 log) (cut_before log edition.1) edition.0 h.datagrams k.datagrams h.are k.are) ∙ sym k.whole
 
 pub outputs_same : (settings : Settings) (log : History) (a b : List ℕ) → IsOutput settings log a → IsOutput settings log b → a ≡ b
 outputs_same settings log a b h k =
@@ -150,7 +198,7 @@ output_prefix settings log longer out whole on h k =
     let after = with_events log on.more in
     let same = subst (λ (l : History). IsOutput settings l whole) on.parts k in
     let editions = subst (λ (es : List (ℕ × ℕ)). AllZip (IsEditionAt settings after) es same.pieces) (editions_more log on.more) same.editions in
-    let pieces = zip_prefix (IsEditionAt settings after) (one_edition settings after) (editions_of log) (editions_after log on.more) h.pieces same.pieces (editions_kept settings log on.more h.pieces h.editions) editions in
+    let pieces = zip_prefix (IsEditionAt settings after) (one_edition settings after) (editions_of log) (editions_after log on.more) h.pieces same.pieces (editions_kept (IsEditionAt settings) (output_kept settings) log on.more h.pieces h.editions) editions in
     record {
       rest = concat pieces.rest;
       parts = same.whole ∙ ap concat pieces.parts ∙ concat_append h.pieces pieces.rest ∙ ap (λ t. t ++ concat pieces.rest) (sym h.whole);

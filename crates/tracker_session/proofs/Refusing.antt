@@ -40,11 +40,11 @@ settings_usage f e = cc
 none_usage : ◌≡◌ {A = Option End} None (Some (Err statuses.Usage)) → ⊥
 none_usage e = cc
 
-replay_usage : (settings input output : List ℕ) (holds : Place → List ℕ → Type 0) (bound : List Binding) (gets : Place → List ℕ) (stop : Option End) → ReplayGives settings input output holds bound gets stop → NoUsage stop
-replay_usage settings input output holds bound gets stop (inl h) e = settings_usage h.fault (same_end _ _ (sym h.end_is ∙ e))
-replay_usage settings input output holds bound gets stop (inr (inl h)) e = end_usage h.fault h.counts (same_end _ _ (sym h.end_is ∙ e))
-replay_usage settings input output holds bound gets stop (inr (inr (inl h))) e = none_usage (sym h.broken ∙ e)
-replay_usage settings input output holds bound gets stop (inr (inr (inr h))) e = none_usage (sym h.broken ∙ e)
+replay_usage : (settings input output prices : List ℕ) (holds : Place → List ℕ → Type 0) (bound : List Binding) (gets : Place → List ℕ) (stop : Option End) → ReplayGives settings input output prices holds bound gets stop → NoUsage stop
+replay_usage settings input output prices holds bound gets stop (inl h) e = settings_usage h.fault (same_end _ _ (sym h.end_is ∙ e))
+replay_usage settings input output prices holds bound gets stop (inr (inl h)) e = end_usage h.fault h.counts (same_end _ _ (sym h.end_is ∙ e))
+replay_usage settings input output prices holds bound gets stop (inr (inr (inl h))) e = none_usage (sym h.broken ∙ e)
+replay_usage settings input output prices holds bound gets stop (inr (inr (inr h))) e = none_usage (sym h.broken ∙ e)
 
 check_usage : (prices : List ℕ) (holds : Place → List ℕ → Type 0) (bound : List Binding) (gets : Place → List ℕ) (stop : Option End) → CheckGives prices holds bound gets stop → NoUsage stop
 check_usage prices holds bound gets stop (inl h) e = verdict_usage h.verdict (same_end _ _ (sym h.end_is ∙ e))
@@ -68,7 +68,7 @@ usage_end None bound status old new so e = absurd (never so.0)
     never (inr h) = elim h.3 [ inl r ↦ (let d = sym r.0 ∙ e in cc) | inr w ↦ (let d = sym w.0 ∙ e in cc) ]
 
 pub only_other : (line : Line) (holds : Place → List ℕ → Type 0) (status : Status) (old new : HostState) → ComesTo (CommandGives line holds) status old new → status ≡ statuses.Usage → line ≡ other
-only_other (replay settings input output prices workers) holds status old new c e = absurd (replay_usage settings input output holds c.bound c.gets c.stop c.given (usage_end c.stop c.bound status old new c.so e))
+only_other (replay settings input output prices workers) holds status old new c e = absurd (replay_usage settings input output prices holds c.bound c.gets c.stop c.given (usage_end c.stop c.bound status old new c.so e))
 only_other (check prices) holds status old new c e = absurd (check_usage prices holds c.bound c.gets c.stop c.given (usage_end c.stop c.bound status old new c.so e))
 only_other (scene seed aircraft seconds late output) holds status old new c e = absurd (recording_usage _ output c.bound c.gets c.stop c.given (usage_end c.stop c.bound status old new c.so e))
 only_other other holds status old new c e = refl

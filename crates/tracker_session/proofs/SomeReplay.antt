@@ -1,12 +1,11 @@
 -- Each list of octets has a replay under all settings.
 use Rattle.std.proofs.Common.{◌≡◌, ap, sym, refl, subst, inl, inr, ℕ, ◌+◌, ◌<◌, List, [], ◌∷◌, ◌++◌, length, take, drop, get_or, arith, append_assoc, append-nil, All, true, false}
-use Rattle.std.specs.Prelude.{map, filter, Bool, Option, Some, None}
+use Rattle.std.specs.Prelude.{Bool, Option, Some, None}
 use Rattle.std.specs.List.{flat_map, concat, AllByRecursion, AllZip}
 use Rattle.std.proofs.lemmas.Bool.{cases_lt}
 use Rattle.std.proofs.lemmas.List.{get_or_append_left, get_or_past, take-append-drop}
 use Rattle.std.proofs.lemmas.List.Elements.{All-from_get_or}
-use Rattle.plot_geometry.specs.Plots.{PlanePlot}
-use Rattle.asterix_frame.specs.Blocks.{DataBlock, encoding}
+use Rattle.asterix_frame.specs.Blocks.{encoding}
 use Rattle.asterix_frame.specs.Blocks as frame
 use Rattle.asterix_frame.proofs.Datagrams.{some_reading}
 use Rattle.recording.specs.declared.header.Header.{Header}
@@ -21,56 +20,14 @@ use Rattle.admission_log.specs.declared.events.Event.{Event}
 use Rattle.admission_log.specs.declared.events.Event.TheVariants.{Tick, Bias}
 use Rattle.admission_log.specs.Histories.{History, first, last_of, next_of, low_at}
 use Rattle.admission_log.proofs.Judgements.{delivery, is_delivery}
-use Rattle.admission_log.specs.Plots.{plots_of}
 use Rattle.tracker_session.specs.Counting.{counts_of}
 use Rattle.io_traits.specs.Places.{place_limit}
 use Rattle.tracker_session.specs.Inputs.{IsInput, tells_biases}
-use Rattle.tracker_session.specs.Picture.{AreBlocksOf, is_shown, track_record, track_records}
-use Rattle.tracker_session.specs.Replay.{Adds, IsLogAfter, IsEditionAt, IsOutput, HasReplay, log_with, empty_log, editions_of}
-use Rattle.tracker_session.specs.Packing.{IsPacking}
-use Rattle.tracker_session.proofs.Packings.{setting_grow, setting_next, setting_end}
+use Rattle.tracker_session.specs.Replay.{Adds, IsLogAfter, IsEditionAt, IsOutput, HasReplay, cut_before, log_with, empty_log, editions_of}
+use Rattle.tracker_session.proofs.Datagrams.{some_datagrams}
 use Rattle.tracker_session.proofs.Inputs.{some_read}
 
 -- ---- editions
-
-Sixteen : List ℕ → Type 0
-Sixteen r = length r ≡ 16
-
-record LastOctets (block : DataBlock) : Type 0 where
-  octets : List ℕ
-  empty : block.body ≡ [] → octets ≡ []
-  spells : 0 < length block.body → octets ≡ frame.encoded block
-
-last_octets : (block : DataBlock) → LastOctets block
-last_octets block =
-    elim (cases_lt 0 (length block.body)) [
-      | inl some ↦ record { octets = frame.encoded block; empty = (λ e. absurd (omega (arith, some, ap length e))); spells = (λ _. refl) }
-      | inr none ↦ record { octets = []; empty = (λ _. refl); spells = (λ some. absurd (omega (arith, none, some))) }
-    ]
-
-record SetOut (records : List (List ℕ)) : Type 0 where
-  octets : List ℕ
-  blocks : AreBlocksOf records octets
-
-set_out : (done rest : List (List ℕ)) (full : List ℕ) (block : DataBlock) → IsPacking done full block → AllByRecursion Sixteen rest → SetOut (done ++ rest)
-unfolding Sixteen
-set_out done [] full block s fit =
-    let last = last_octets block in
-    subst SetOut (sym (append-nil done)) (record { octets = full ++ last.octets; blocks = setting_end done full last.octets block s last.empty last.spells })
-set_out done (r ∷ rest) full block s fit =
-    elim (cases_lt 1400 (length block.body + length r + 3)) [
-      | inl over ↦ subst SetOut (append_assoc done (r ∷ []) rest) (set_out (done ++ r ∷ []) rest (full ++ frame.encoded block) (record { category = 62; body = r }) (setting_next done full (frame.encoded block) block r s (omega (arith, fit.0)) (omega (arith, fit.0)) over (λ _. refl)) fit.1)
-      | inr room ↦ subst SetOut (append_assoc done (r ∷ []) rest) (set_out (done ++ r ∷ []) rest full (record block { body = block.body ++ r }) (setting_grow done full block r s (omega (arith, fit.0)) room) fit.1)
-    ]
-
-all_sixteen : (settings : Settings) (time : ℕ) (ps : List PlanePlot) → AllByRecursion Sixteen (map (track_record settings time) ps)
-unfolding Sixteen
-all_sixteen settings time [] = tt
-all_sixteen settings time (p ∷ ps) = (refl, all_sixteen settings time ps)
-
-edition_some : (settings : Settings) (time : ℕ) (ps : List PlanePlot) → SetOut (track_records settings time ps)
-edition_some settings time ps =
-    set_out [] (track_records settings time ps) [] (record { category = 62; body = [] }) (record { groups = []; last = []; filled = inl (refl, refl); all = refl; full_is = refl; block_is = refl }) (all_sixteen settings time (filter is_shown ps))
 
 record SomePieces (settings : Settings) (log : History) (editions : List (ℕ × ℕ)) : Type 0 where
   pieces : List (List ℕ)
@@ -79,10 +36,9 @@ record SomePieces (settings : Settings) (log : History) (editions : List (ℕ ×
 some_pieces : (settings : Settings) (log : History) (editions : List (ℕ × ℕ)) → SomePieces settings log editions
 some_pieces settings log [] = record { pieces = []; are = tt }
 some_pieces settings log (edition ∷ editions) =
-    let cut = first edition.1 log in
-    let one = edition_some settings (last_of cut) (plots_of settings cut) in
+    let one = some_datagrams settings (first edition.1 log) (cut_before log edition.1) edition.0 in
     let others = some_pieces settings log editions in
-    record { pieces = one.octets ∷ others.pieces; are = (one.blocks, others.are) }
+    record { pieces = concat one.datagrams ∷ others.pieces; are = (record { datagrams = one.datagrams; are = one.are; whole = refl }, others.are) }
 
 record SomeOutput (settings : Settings) (log : History) : Type 0 where
   octets : List ℕ

@@ -20,7 +20,7 @@ use Rattle.tracker_session.specs.declared.taking.Run.{Run}
 use Rattle.tracker_session.specs.declared.counts.Counts.{Counts}
 use Rattle.tracker_session.specs.Counting.{is_datagram, is_tick, is_bias, is_delivery, is_tick_taken, is_change, is_admitted, is_unknown, is_early, is_ahead, is_not_plot, others_in, told_of, counted, counts_of, missed, raised, with_told}
 use Rattle.tracker_session.specs.Replay.{HasFault, IsReplayLog}
-use Rattle.tracker_session.specs.Taking.{HasTaken, Takes, TakesSilently}
+use Rattle.tracker_session.specs.Taking.{HasTaken, Takes}
 use Rattle.tracker_session.proofs.Logs.{DeliveryKinds, Kinds, bit, covered, delivery_kinds}
 
 counted_more : (a b : ℕ) → counted (counted a + b) ≡ counted (a + b)
@@ -111,18 +111,14 @@ module _ (p : Item → Bool) (q : Event → Bool) (items : List Item) (item : It
       let none : bit (q event) ≡ 0 = ap bit e in
       omega (arith, none, events_push event)
 
--- what was taken silently was taken
-pub silently : (settings : Settings) (item : Item) (old new : Run) → TakesSilently settings item old new → Takes settings item None old new
-silently settings item old new h = record { added = h.added; has = h.has; shown = h.silent }
-
 -- ---- what is passed over
 
-pub malformed_taken : (settings : Settings) (feed : ℕ) (octets : List ℕ) (old new : Run) → HasFault octets → new.log ≡ old.log → new.counts ≡ record old.counts { malformed = counted (old.counts.malformed + 1) } → TakesSilently settings (datagram feed octets) old new
+pub malformed_taken : (settings : Settings) (feed : ℕ) (octets : List ℕ) (old new : Run) → HasFault octets → new.log ≡ old.log → new.counts ≡ record old.counts { malformed = counted (old.counts.malformed + 1) } → Takes settings (datagram feed octets) false old new
 malformed_taken settings feed octets old new fault log counts =
     record {
       added = None;
       has = record { adds = fault; log = log; counts = grown };
-      silent = refl;
+      shown_is = refl;
     }
   where
     item : Item
@@ -137,12 +133,12 @@ malformed_taken settings feed octets old new fault log counts =
         ∙ (λ i. record (counts_of tells items old.log) { malformed = one i; old = olds i; refused = refused i })
         ∙ ap (counts_of tells (items ++ item ∷ [])) (sym log)
 
-pub old_tick_taken : (settings : Settings) (time : ℕ) (old new : Run) → time ≤ last_of old.log → new.log ≡ old.log → new.counts ≡ record old.counts { old = counted (old.counts.old + 1) } → TakesSilently settings (tick time) old new
+pub old_tick_taken : (settings : Settings) (time : ℕ) (old new : Run) → time ≤ last_of old.log → new.log ≡ old.log → new.counts ≡ record old.counts { old = counted (old.counts.old + 1) } → Takes settings (tick time) false old new
 old_tick_taken settings time old new late log counts =
     record {
       added = None;
       has = record { adds = late; log = log; counts = grown };
-      silent = refl;
+      shown_is = refl;
     }
   where
     item : Item
@@ -159,12 +155,12 @@ old_tick_taken settings time old new late log counts =
 
 -- ---- what is taken
 
-pub admitted_taken : (settings : Settings) (feed : ℕ) (octets : List ℕ) (contents : List Content) (event : Event) (old new : Run) → IsDatagram octets contents → IsDeliveryTo settings old.log feed contents event → new.log ≡ appended old.log event → new.counts ≡ record (with_told (outcomes_in event) old.counts) { other = counted (old.counts.other + others_in event) } → TakesSilently settings (datagram feed octets) old new
+pub admitted_taken : (settings : Settings) (feed : ℕ) (octets : List ℕ) (contents : List Content) (event : Event) (old new : Run) → IsDatagram octets contents → IsDeliveryTo settings old.log feed contents event → new.log ≡ appended old.log event → new.counts ≡ record (with_told (outcomes_in event) old.counts) { other = counted (old.counts.other + others_in event) } → Takes settings (datagram feed octets) false old new
 admitted_taken settings feed octets contents event old new is delivery log counts =
     record {
       added = Some event;
       has = record { adds = (contents, is, delivery); log = log; counts = grown };
-      silent = kinds.kinds.tick_taken;
+      shown_is = kinds.kinds.tick_taken;
     }
   where
     item : Item
@@ -234,12 +230,12 @@ tick_taken settings time old new later log counts =
 
 -- ---- changes of biases
 
-pub refused_taken : (settings : Settings) (radar slot : ℕ) (b : Bias) (old new : Run) → (IsOpenChange settings (last_of old.log) radar slot → ⊥) → new.log ≡ old.log → new.counts ≡ record old.counts { refused = counted (old.counts.refused + 1) } → TakesSilently settings (bias radar slot b) old new
+pub refused_taken : (settings : Settings) (radar slot : ℕ) (b : Bias) (old new : Run) → (IsOpenChange settings (last_of old.log) radar slot → ⊥) → new.log ≡ old.log → new.counts ≡ record old.counts { refused = counted (old.counts.refused + 1) } → Takes settings (bias radar slot b) false old new
 refused_taken settings radar slot b old new closed log counts =
     record {
       added = None;
       has = record { adds = closed; log = log; counts = grown };
-      silent = refl;
+      shown_is = refl;
     }
   where
     item : Item
@@ -254,12 +250,12 @@ refused_taken settings radar slot b old new closed log counts =
         ∙ (λ i. record (counts_of tells items old.log) { refused = one i; malformed = faults i; old = olds i })
         ∙ ap (counts_of tells (items ++ item ∷ [])) (sym log)
 
-pub change_taken : (settings : Settings) (radar slot : ℕ) (b : Bias) (old new : Run) → IsOpenChange settings (last_of old.log) radar slot → new.log ≡ appended old.log (Change radar slot b) → new.counts ≡ record old.counts { biases = counted (old.counts.biases + 1) } → TakesSilently settings (bias radar slot b) old new
+pub change_taken : (settings : Settings) (radar slot : ℕ) (b : Bias) (old new : Run) → IsOpenChange settings (last_of old.log) radar slot → new.log ≡ appended old.log (Change radar slot b) → new.counts ≡ record old.counts { biases = counted (old.counts.biases + 1) } → Takes settings (bias radar slot b) false old new
 change_taken settings radar slot b old new is_open log counts =
     record {
       added = Some event;
       has = record { adds = (is_open, refl); log = log; counts = grown };
-      silent = refl;
+      shown_is = refl;
     }
   where
     item : Item

@@ -10,7 +10,7 @@ use Rattle.tracker_session.specs.Scene.{SceneGives, scene_script}
 use Rattle.tracker_session.specs.Words.{Line, replay, check, scene, other}
 
 abbrev pub script_of : Line → Script
-script_of (replay settings input output prices workers) = replay_script settings input output
+script_of (replay settings input output prices workers) = replay_script settings input output prices
 script_of (check prices) = check_script prices
 script_of (scene seed aircraft seconds late output) = scene_script seed aircraft seconds late output
 script_of other = ends (Err Usage)
@@ -23,7 +23,7 @@ pub record IsRefusal (bound : List Binding) (gets : Place → List ℕ) (stop : 
 
 -- What a line gives, where the places hold this: which places are bound, in order, what each gets, and its end; or none, where it broke off.
 abbrev pub CommandGives : Line → (Place → List ℕ → Type 0) → List Binding → (Place → List ℕ) → Option End → Type 0
-CommandGives (replay settings input output prices workers) holds bound gets stop = ReplayGives settings input output holds bound gets stop
+CommandGives (replay settings input output prices workers) holds bound gets stop = ReplayGives settings input output prices holds bound gets stop
 CommandGives (check prices) holds bound gets stop = CheckGives prices holds bound gets stop
 CommandGives (scene seed aircraft seconds late output) holds bound gets stop = SceneGives seed aircraft seconds late output bound gets stop
 CommandGives other holds bound gets stop = IsRefusal bound gets stop

@@ -2,11 +2,10 @@ pub mod Check
 pub mod Checking
 pub mod Commands
 pub mod Counting
+pub mod Editions
 pub mod Faulty
 pub mod Inputs
 pub mod Judging
-pub mod Packing
-pub mod Picture
 pub mod Replay
 pub mod ReplayGives
 pub mod ReplayScript

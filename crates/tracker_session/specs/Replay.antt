@@ -1,7 +1,8 @@
 -- What a replay gives for the settings and the octets of its input: the log of its items, the editions at the ticks of that log, and the counts.
-use Rattle.std.specs.Prelude.{◌≡◌, ◌<◌, ◌≤◌, ℕ, List, [], ◌∷◌, Option, Some, None}
+use Rattle.std.specs.Prelude.{◌≡◌, ◌<◌, ◌≤◌, ◌-◌, ℕ, List, [], ◌∷◌, ◌++◌, fold, length, Option, Some, None}
 use Rattle.std.specs.List.{AllZip, concat, enumerate_from, filter_map}
 use Rattle.std.specs.Option.{option_map}
+use Rattle.price_form.specs.Files.{magic}
 use Rattle.asterix_frame.specs.Datagrams.{Content, IsDatagram, DatagramFault}
 use Rattle.recording.specs.declared.header.Header.{Header}
 use Rattle.recording.specs.Items.{Item, datagram, tick, bias}
@@ -11,10 +12,11 @@ use Rattle.admission_log.specs.declared.events.Event.TheVariants.{Tick, Bias}
 use Rattle.admission_log.specs.Histories.{History, appended, first, last_of, tick_in}
 use Rattle.admission_log.specs.Changes.{IsOpenChange}
 use Rattle.admission_log.specs.Deliveries.{IsDeliveryTo}
+use Rattle.edition_form.specs.Datagrams.{AreDatagramsOf}
+use Rattle.edition_form.specs.Prices.{ArePricesOf}
 use Rattle.tracker_session.specs.declared.counts.Counts.{Counts}
 use Rattle.tracker_session.specs.Counting.{counts_of}
 use Rattle.tracker_session.specs.Inputs.{IsInput, tells_biases}
-use Rattle.tracker_session.specs.Picture.{IsEdition}
 
 -- ---- the log
 
@@ -63,15 +65,39 @@ cuts_of log = filter_map cut_in (enumerate_from 1 log.events)
 abbrev pub editions_of : History → List (ℕ × ℕ)
 editions_of log = enumerate_from 1 (cuts_of log)
 
--- The octets are those of an edition: the picture of the log's events up to the cut.
-abbrev pub IsEditionAt : Settings → History → ℕ × ℕ → List ℕ → Type 0
-IsEditionAt settings log edition octets = IsEdition settings (first edition.1 log) octets
+-- the cut of the last one, or 0 where there is none
+abbrev pub last_cut : History → ℕ
+last_cut log = fold (λ before cut. cut) 0 (cuts_of log)
 
--- The octets are those of all editions of a log, one after the other.
-pub record IsOutput (settings : Settings) (log : History) (octets : List ℕ) : Type 0 where
+-- the cut of the one before that at a cut, or 0
+abbrev pub cut_before : History → ℕ → ℕ
+cut_before log cut = last_cut (first (cut - 1) log)
+
+-- the edition of a log whose last event is a tick
+abbrev pub newest : History → ℕ × ℕ
+newest log = (length (cuts_of log), length log.events)
+
+-- The octets are the datagrams of an edition, one after the other: those of the log's events up to the cut, told against the edition before.
+pub record IsEditionAt (settings : Settings) (log : History) (edition : ℕ × ℕ) (octets : List ℕ) : Type 0 where
+  pub datagrams : List (List ℕ)
+  pub are : AreDatagramsOf settings (first edition.1 log) (cut_before log edition.1) edition.0 datagrams
+  pub whole : octets ≡ concat datagrams
+
+-- The octets are those of all editions of a log, one after the other, where this says which those of each are.
+pub record AreOfAll (AreOf : History → ℕ × ℕ → List ℕ → Type 0) (log : History) (octets : List ℕ) : Type 0 where
   pub pieces : List (List ℕ)
-  pub editions : AllZip (IsEditionAt settings log) (editions_of log) pieces
+  pub editions : AllZip (AreOf log) (editions_of log) pieces
   pub whole : octets ≡ concat pieces
+
+-- the datagrams of all of them
+abbrev pub IsOutput : Settings → History → List ℕ → Type 0
+IsOutput settings log octets = AreOfAll (IsEditionAt settings) log octets
+
+-- A price file of all of them: four octets, and of each edition its record and its certificates, whose prices are any that prove.
+pub record IsPrices (settings : Settings) (log : History) (octets : List ℕ) : Type 0 where
+  pub records : List ℕ
+  pub are : AreOfAll (ArePricesOf settings) log records
+  pub begins : octets ≡ magic ++ records
 
 -- ---- the replay
 

@@ -5,6 +5,8 @@ use Rattle.recording.specs.Items.{Item}
 use Rattle.admission_log.specs.declared.settings.Settings as admission
 use Rattle.admission_log.specs.declared.events.Event.{Event}
 use Rattle.admission_log.specs.Histories.{History}
+use Rattle.edition_form.specs.Prices.{ArePricesOf}
+use Rattle.price_form.specs.Files.{magic}
 use Rattle.settings_text.specs.Answers.{IsSettingsAnswer}
 use Rattle.settings_text.specs.declared.faults.SettingsFault.{SettingsFault}
 use Rattle.session_script.specs.Scripts.{End, Script, reads, opens, writes, picks, ends}
@@ -13,8 +15,7 @@ use Rattle.session_script.specs.declared.status.Status.TheVariants.{Input, Memor
 use Rattle.tracker_session.specs.declared.counts.Counts.{Counts}
 use Rattle.tracker_session.specs.Counting.{counts_of}
 use Rattle.tracker_session.specs.Inputs.{HasInput, tells_biases}
-use Rattle.tracker_session.specs.Picture.{IsEdition}
-use Rattle.tracker_session.specs.Replay.{Adds, empty_log, log_with}
+use Rattle.tracker_session.specs.Replay.{Adds, IsEditionAt, empty_log, log_with, newest}
 use Rattle.tracker_session.specs.Screen.{counts_line}
 use Rattle.tracker_session.specs.Taking.{shows}
 
@@ -30,10 +31,12 @@ pub record Added (settings : admission.Settings) (log : History) (item : Item) :
   pub event : Option Event
   pub adds : Adds settings log item event
 
--- the octets of the edition of a log
+-- the octets of the newest edition of a log, and its prices
 pub record EditionOf (settings : admission.Settings) (log : History) : Type 0 where
   pub octets : List ℕ
-  pub is : IsEdition settings log octets
+  pub is : IsEditionAt settings log (newest log) octets
+  pub prices : List ℕ
+  pub priced : ArePricesOf settings log (newest log) prices
 
 -- ---- how it ends
 
@@ -48,9 +51,9 @@ ending tells fault items log = ends (end_at fault (counts_of tells items log))
 
 -- ---- the steps
 
--- an edition, where there is to be one, goes to Output
+-- an edition, where there is to be one, goes to Output, and then its prices to Prices
 abbrev pub edition_script : admission.Settings → History → Bool → Script → Script
-edition_script settings log true next = picks (λ (edition : EditionOf settings log). writes places.Output edition.octets next)
+edition_script settings log true next = picks (λ (edition : EditionOf settings log). writes places.Output edition.octets (writes places.Prices edition.prices next))
 edition_script settings log false next = next
 
 -- behind a log, the items that are left: each edition is written where its tick is taken
@@ -63,17 +66,21 @@ items_script settings next log (item ∷ items) =
 abbrev pub octets_script : admission.Settings → List ℕ → Script
 octets_script settings octets = picks (λ (r : HasInput octets). items_script settings (ending (tells_biases octets) r.fault r.items) (empty_log r.start) r.items)
 
+-- Prices begins with its four octets.
+abbrev pub prices_script : admission.Settings → List ℕ → Script
+prices_script settings octets = writes places.Prices magic (octets_script settings octets)
+
 -- under good settings
-abbrev pub input_script : List ℕ → List ℕ → admission.Settings → Script
-input_script input output settings = reads places.Input input (λ octets. opens places.Output output (octets_script settings octets))
+abbrev pub input_script : List ℕ → List ℕ → List ℕ → admission.Settings → Script
+input_script input output prices settings = reads places.Input input (λ octets. opens places.Output output (opens places.Prices prices (prices_script settings octets)))
 
 abbrev pub under : Result admission.Settings SettingsFault → (admission.Settings → Script) → Script
 under (Ok settings) next = next settings
 under (Err fault) next = ends (Err (Settings fault))
 
--- It reads Settings and judges it, and then reads Input, opens Output and takes the items.
-abbrev pub replay_script : List ℕ → List ℕ → List ℕ → Script
-replay_script settings input output = reads places.Settings settings (λ document. picks (λ (d : DocumentAnswer document). under d.answer (input_script input output)))
+-- It reads Settings and judges it, and then reads Input, opens Output and Prices, and takes the items.
+abbrev pub replay_script : List ℕ → List ℕ → List ℕ → List ℕ → Script
+replay_script settings input output prices = reads places.Settings settings (λ document. picks (λ (d : DocumentAnswer document). under d.answer (input_script input output prices)))
 
 -- ---- what its parts answer
 

@@ -1,13 +1,11 @@
--- What taking an item does to a replay: what it adds to the log, what is counted, and the edition that it gives.
-use Rattle.std.specs.Prelude.{◌≡◌, ℕ, Bool, true, false, List, [], ◌∷◌, ◌++◌, Option, Some, None, Vec}
-use Rattle.std.specs.declared.alloc.Global.{Global}
+-- What taking an item does to a replay: what it adds to the log, what is counted, and whether it gives an edition.
+use Rattle.std.specs.Prelude.{◌≡◌, ℕ, Bool, false, List, [], ◌∷◌, ◌++◌, Option, Some, None}
 use Rattle.recording.specs.Items.{Item}
 use Rattle.admission_log.specs.declared.settings.Settings.{Settings}
 use Rattle.admission_log.specs.declared.events.Event.{Event}
 use Rattle.admission_log.specs.Histories.{History}
 use Rattle.tracker_session.specs.declared.taking.Run.{Run}
 use Rattle.tracker_session.specs.Counting.{counts_of, is_tick_taken}
-use Rattle.tracker_session.specs.Picture.{IsEdition}
 use Rattle.tracker_session.specs.Replay.{Adds, IsReplayLog, log_with}
 
 -- The run is that of these items from the start on.
@@ -26,19 +24,8 @@ abbrev pub shows : Option Event → Bool
 shows (Some event) = is_tick_taken event
 shows None = false
 
--- the edition of the log with what was added, where that gives one, and else none
-abbrev pub IsShown : Settings → History → Option Event → Option (Vec ℕ Global) → Type 0
-IsShown settings log added (Some edition) = (shows added ≡ true) × IsEdition settings log edition.items
-IsShown settings log added None = shows added ≡ false
-
--- The item was taken, and gave this edition, or none.
-pub record Takes (settings : Settings) (item : Item) (edition : Option (Vec ℕ Global)) (old new : Run) : Type 0 where
+-- The item was taken, and a tick was so, or none.
+pub record Takes (settings : Settings) (item : Item) (shown : Bool) (old new : Run) : Type 0 where
   pub added : Option Event
   pub has : HasTaken settings item added old new
-  pub shown : IsShown settings new.log added edition
-
--- The item was taken, and gives no edition.
-pub record TakesSilently (settings : Settings) (item : Item) (old new : Run) : Type 0 where
-  pub added : Option Event
-  pub has : HasTaken settings item added old new
-  pub silent : shows added ≡ false
+  pub shown_is : shows added ≡ shown

@@ -36,9 +36,10 @@ fn run_words<R: Threads + Sync, H: Host>(
 /// started; none outlives the call, and none is waited for but those.
 ///
 /// `replay SETTINGS INPUT OUTPUT PRICES` reads the settings, and then what Input is bound to, a
-/// recording or data blocks alone. Each datagram is admitted to one log, and each tick above the last one
-/// writes the edition of the log to Output: a record for each plot whose slot is over. Prices are named
-/// and left alone. A malformed datagram and an old tick are passed over and counted.
+/// recording or data blocks alone. Each datagram is admitted to one log, and each change of biases put
+/// into it. Each tick above the last one writes an edition of the log: to Output its datagrams, and then
+/// to Prices its record and its certificates. Prices begins with four octets of its own. A malformed
+/// datagram, an old tick and a change of biases that isn't open are passed over and counted.
 ///
 /// `check PRICES` reads a price file, judges the grammar of all of it, and then its certificates, many at
 /// a time.
@@ -47,8 +48,9 @@ fn run_words<R: Threads + Sync, H: Host>(
 ///
 /// - `Usage` comes exactly for other words.
 /// - `Settings` comes in `replay` exactly where Settings was read, and tells its first fault.
-/// - `Read` comes where Settings, Input or Prices couldn't be opened or read, `Write` where Output couldn't
-///   be opened or written or Screen couldn't be written, and `Memory` where memory is wanting.
+/// - `Read` comes where Settings, Input or Prices couldn't be opened or read, `Write` where Output or, in
+///   `replay`, Prices couldn't be opened or written or Screen couldn't be written, and `Memory` where
+///   memory is wanting.
 /// - `Input` comes at the first fault of the input, or of the price file, which may have 1,073,741,824
 ///   octets at most.
 /// - `NotProved` comes in `check` at the first certificate that doesn't prove.

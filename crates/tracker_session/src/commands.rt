@@ -30,9 +30,9 @@ pub fn run_command<R: Threads + Sync, H: Host>(
             settings,
             input,
             output,
-            prices: _prices,
+            prices,
             workers: _workers,
-        } => replay::replay(alloc, settings, input, output, host),
+        } => replay::replay(alloc, settings, input, output, prices, host),
         Command::Check { prices } => check::check(rt, alloc, prices, host),
         Command::Scene {
             seed,

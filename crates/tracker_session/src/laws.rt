@@ -28,9 +28,9 @@ pub fn one_replay()
     ensures one { (settings : Settings) (octets a b : List ℕ) (c d : Counts) (f g : Option ℕ) → Replays settings octets a c f → Replays settings octets b d g → (a ≡ b) × (c ≡ d) × (f ≡ g) }
 {}
 
-/// What was written where a replay broke off is a prefix of its output.
+/// What Output got where a replay broke off is a prefix of its output.
 pub fn front_of_replay()
-    ensures { (settings : Settings) (octets part output : List ℕ) (counts : Counts) (fault : Option ℕ) → ReplaysPartly settings octets part → Replays settings octets output counts fault → (n : ℕ) × (n ≤ length output) × (part ≡ take n output) }
+    ensures { (settings : Settings) (octets part prices output : List ℕ) (counts : Counts) (fault : Option ℕ) → ReplaysPartly settings octets part prices → Replays settings octets output counts fault → (n : ℕ) × (n ≤ length output) × (part ≡ take n output) }
 {}
 
 /// The datagrams of a replay that aren't in its log, which are counted as malformed, are those with a fault.

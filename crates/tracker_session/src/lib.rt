@@ -4,9 +4,9 @@
 mod batch;
 mod commands;
 mod counts;
+mod editions;
 mod input;
 mod laws;
-mod picture;
 mod taking;
 mod words;
 

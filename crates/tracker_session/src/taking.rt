@@ -1,17 +1,15 @@
-// The items of a recording, taken one after the other: what they add to the log, and the edition that each gives.
-ghost use Rattle.std.specs.Prelude.{◌≡◌, ◌<◌, ◌≤◌, ◌^◌, [], length, IfOk, OnOk};
+// The items of a recording, taken one after the other: what they add to the log, and which give an edition.
+ghost use Rattle.std.specs.Prelude.{◌≡◌, ◌<◌, ◌≤◌, ◌^◌, [], false, length, IfOk, OnOk};
 ghost use Rattle.recording.specs.Answers.{item_of};
 ghost use Rattle.recording.specs.declared.header.Header.{Header};
 ghost use Rattle.recording.specs.Items.{IsItem, datagram, tick};
 ghost use Rattle.recording.specs.Items as recorded;
-ghost use Rattle.admission_log.specs.Histories.{last_of};
-ghost use Rattle.tracker_session.specs.Picture.{IsEdition};
-ghost use Rattle.tracker_session.specs.Taking.{StandsFor, Takes, TakesSilently};
+ghost use Rattle.admission_log.specs.Legality.{IsLegal};
+ghost use Rattle.tracker_session.specs.Taking.{StandsFor, Takes};
 ghost use Rattle.admission_log.specs.declared.settings.Settings as Given;
 
 use crate::counts::{Counts, count_outcomes, more, others_in_last};
-use crate::picture::edition;
-use admission_log::{AdmitError, BiasError, Log, Settings, TickError, plots_of};
+use admission_log::{AdmitError, BiasError, Log, Settings, TickError};
 use plot_geometry::Bias;
 use recording::Item;
 use std::alloc::Global;
@@ -36,35 +34,33 @@ impl Run {
         }
     }
 
-    /// Takes an item. A tick above the last one gives the octets of the edition of the log with it.
+    /// Takes an item, and answers whether it gives an edition: it does where it is a tick above the
+    /// last one.
     ///
     /// Where memory is wanting, the replay is of no use any more.
-    pub fn take(
-        &mut self,
-        alloc: Global,
-        settings: &Settings,
-        item: Item<'_>,
-    ) -> Result<Option<Vec<u8>>, NoMemory>
+    pub fn take(&mut self, settings: &Settings, item: Item<'_>) -> Result<bool, NoMemory>
         requires { IsItem Header.Second (item_of item) }
-        ensures { IfOk result (λ edition. Takes settings.now (item_of item.entry) edition self.old self.new) }
+        ensures takes { IfOk result (λ shown. Takes settings.now (item_of item.entry) shown self.old self.new) }
+        ensures legal { IsLegal settings.now self.old.log → IsLegal settings.now self.new.log }
     {
         match item {
             Item::Datagram { feed, bytes } => {
                 self.admit(settings, feed, bytes)?;
-                Ok(None)
+                Ok(false)
             }
             Item::Bias { radar, slot, bias } => {
                 self.change_biases(settings, radar, slot, bias)?;
-                Ok(None)
+                Ok(false)
             }
-            Item::Tick(time) => self.tick(alloc, settings, time),
+            Item::Tick(time) => self.tick(time),
         }
     }
 
     // Takes a datagram of a feed.
     fn admit(&mut self, settings: &Settings, feed: u8, octets: &[u8]) -> Result<(), NoMemory>
         requires { length octets.now ≤ 65535 }
-        ensures { OnOk result (TakesSilently settings.now (datagram feed octets.now) self.old self.new) }
+        ensures legal { IsLegal settings.now self.old.log → IsLegal settings.now self.new.log }
+        ensures takes { OnOk result (Takes settings.now (datagram feed octets.now) false self.old self.new) }
     {
         match self.log.admit(settings, feed, octets) {
             Ok(receipt) => {
@@ -81,25 +77,20 @@ impl Run {
         }
     }
 
-    // Takes a tick. An old one gives nothing.
-    fn tick(
-        &mut self,
-        alloc: Global,
-        settings: &Settings,
-        time: u64,
-    ) -> Result<Option<Vec<u8>>, NoMemory>
+    // Takes a tick. An old one gives no edition.
+    fn tick(&mut self, time: u64) -> Result<bool, NoMemory>
         requires { time < 2 ^ 40 }
-        ensures { IfOk result (λ edition. Takes settings.now (tick time) edition self.old self.new) }
+        ensures takes { (settings : Given.Settings) → IfOk result (λ shown. Takes settings (tick time) shown self.old self.new) }
+        ensures legal { (settings : Given.Settings) → IsLegal settings self.old.log → IsLegal settings self.new.log }
     {
         match self.log.tick(time) {
             Ok(_) => {
                 self.counts.editions = more(self.counts.editions, 1);
-                let edition = edition_of(alloc, settings, &self.log, time)?;
-                Ok(Some(edition))
+                Ok(true)
             }
             Err(TickError::Old { .. }) => {
                 self.counts.old = more(self.counts.old, 1);
-                Ok(None)
+                Ok(false)
             }
             Err(TickError::NoMemory) => Err(NoMemory),
         }
@@ -114,7 +105,8 @@ impl Run {
         bias: Bias,
     ) -> Result<(), NoMemory>
         requires { slot < 2 ^ 34 }
-        ensures { OnOk result (TakesSilently settings.now (recorded.bias radar slot bias) self.old self.new) }
+        ensures legal { IsLegal settings.now self.old.log → IsLegal settings.now self.new.log }
+        ensures takes { OnOk result (Takes settings.now (recorded.bias radar slot bias) false self.old self.new) }
     {
         match self.log.bias(settings, radar, slot, bias) {
             Ok(_) => {
@@ -132,13 +124,4 @@ impl Run {
             Err(BiasError::NoMemory) => Err(NoMemory),
         }
     }
-}
-
-// The edition of a log at its last tick.
-fn edition_of(alloc: Global, settings: &Settings, log: &Log, time: u64) -> Result<Vec<u8>, NoMemory>
-    requires { time ≡ last_of log.now }
-    ensures { IfOk result (λ v. IsEdition settings.now log.now v.items) }
-{
-    let plots = plots_of(alloc, settings, log)?;
-    edition(alloc, settings, time, &plots)
 }

@@ -16,18 +16,20 @@ use std::process::Abort;
 use std::test::Fail;
 use std::thread::Threads;
 
-/// A run: its words, what its places hold, how many octets Output and Screen take, and which calls fail;
-/// and what comes of it.
+/// A run: its words, what its places hold, how many octets Output, Prices and Screen take, and which
+/// calls fail; and what comes of it.
 #[derive(Clone, Copy)]
 struct Run<'a> {
     words: &'a [&'a str],
     settings: &'a [u8],
     input: &'a [u8],
     prices: &'a [u8],
-    room: [usize; 2],
+    room: [usize; 3],
     fails: &'a [u64],
     status: Status,
     output: &'a [u8],
+    /// What Prices got.
+    priced: &'a [u8],
     screen: &'a str,
     /// What Settings, Input, Output and Prices are bound to.
     bound: [Option<(Way, &'a str)>; 4],
@@ -45,13 +47,26 @@ const ONE_PLOT: [u8; 33] = [
     0x01, 0x00, 0x00, 0x46, 0x50, 0x80,
 ];
 
-/// Its picture.
-const PICTURE: [u8; 19] = [
-    0x3E, 0x00, 0x13, 0x95, 0x0C, 0x01, 0x63, 0x46, 0x50, 0x80, 0x00, 0x00, 0x00, 0x00, 0x0E, 0x78,
-    0x00, 0x01, 0x80,
+/// Its edition: the track that begins with the plot, the state of the radar, that of the service, and the
+/// end of the batch.
+const EDITION: [u8; 82] = [
+    0x3E, 0x00, 0x24, 0xB7, 0x0F, 0x01, 0x04, 0x01, 0x63, 0x01, 0x46, 0x50, 0x80, 0x00, 0x00, 0x00,
+    0x00, 0x0E, 0x78, 0x00, 0x00, 0x00, 0x00, 0x00, 0x01, 0x81, 0x21, 0x01, 0x68, 0x10, 0x03, 0x80,
+    0x02, 0x29, 0x02, 0x32, 0x3F, 0x00, 0x16, 0xFF, 0x80, 0x01, 0x63, 0x01, 0x46, 0x50, 0x80, 0x01,
+    0x01, 0xC0, 0x00, 0x00, 0x00, 0x00, 0x00, 0x00, 0x00, 0x00, 0x41, 0x00, 0x0C, 0xF4, 0x01, 0x63,
+    0x01, 0x01, 0x46, 0x50, 0x80, 0x40, 0x41, 0x00, 0x0C, 0xF8, 0x01, 0x63, 0x02, 0x01, 0x46, 0x50,
+    0x80, 0x01,
 ];
 
-/// The words of a replay, and what its places are bound to: none, Settings, Input too, and all.
+/// The prices of its editions: the record of the first one, and a certificate.
+const PRICES: [u8; 63] = [
+    0x4D, 0x52, 0x50, 0x31, 0x01, 0x00, 0x00, 0x00, 0x00, 0x00, 0x00, 0x00, 0x01, 0x00, 0x00, 0x00,
+    0x00, 0x00, 0x00, 0x00, 0x02, 0x02, 0x00, 0x00, 0x00, 0x00, 0x00, 0x01, 0x19, 0x40, 0x00, 0x00,
+    0x00, 0x00, 0x01, 0x00, 0x00, 0x00, 0x00, 0x00, 0x00, 0x00, 0x00, 0x00, 0x00, 0x00, 0x00, 0x00,
+    0x00, 0x00, 0x00, 0xFF, 0xFF, 0xFF, 0xFF, 0x00, 0x00, 0x00, 0x00, 0x00, 0x00, 0x10, 0x01,
+];
+
+/// The words of a replay, and what its places are bound to: none, Settings, Input too, Output too, and all.
 const REPLAY: [&str; 5] = ["replay", "a", "b", "c", "d"];
 
 const NONE: [Option<(Way, &str)>; 4] = [None, None, None, None];
@@ -60,11 +75,18 @@ const FIRST: [Option<(Way, &str)>; 4] = [Some((Way::Read, "a")), None, None, Non
 
 const BOTH: [Option<(Way, &str)>; 4] = [Some((Way::Read, "a")), Some((Way::Read, "b")), None, None];
 
-const ALL: [Option<(Way, &str)>; 4] = [
+const OPENED: [Option<(Way, &str)>; 4] = [
     Some((Way::Read, "a")),
     Some((Way::Read, "b")),
     Some((Way::Write, "c")),
     None,
+];
+
+const ALL: [Option<(Way, &str)>; 4] = [
+    Some((Way::Read, "a")),
+    Some((Way::Read, "b")),
+    Some((Way::Write, "c")),
+    Some((Way::Write, "d")),
 ];
 
 fn words_of(alloc: Global, texts: &[&str]) -> Result<Vec<String>, Fail> {
@@ -97,7 +119,11 @@ fn host_of(alloc: Global, run: &Run<'_>) -> Result<MemHost, Fail>
         (Place::Input, Vec::from_slice(alloc, run.input)?),
         (Place::Prices, Vec::from_slice(alloc, run.prices)?),
     ]?;
-    let rooms = vec![in alloc; (Place::Output, run.room[0]), (Place::Screen, run.room[1])]?;
+    let rooms = vec![in alloc;
+        (Place::Output, run.room[0]),
+        (Place::Prices, run.room[1]),
+        (Place::Screen, run.room[2]),
+    ]?;
     Ok(MemHost::new(alloc, left, rooms, Vec::from_slice(alloc, run.fails)?)?)
 }
 
@@ -105,6 +131,7 @@ fn host_of(alloc: Global, run: &Run<'_>) -> Result<MemHost, Fail>
 fn compare_places(rt: &impl Abort, run: &Run<'_>, host: &MemHost, row: usize) {
     let [settings, input, output, prices] = run.bound;
     assert_eq!(rt; host.got(Place::Output), run.output, "at {row}");
+    assert_eq!(rt; host.got(Place::Prices), run.priced, "at {row}");
     assert_eq!(rt; host.got(Place::Screen), run.screen.as_bytes(), "at {row}");
     assert_eq!(rt; host.bound(Place::Settings), settings, "at {row}");
     assert_eq!(rt; host.bound(Place::Input), input, "at {row}");
@@ -139,16 +166,17 @@ fn compare(
 }
 
 // A replay of this input that is done.
-fn done<'a>(input: &'a [u8], output: &'a [u8], screen: &'a str) -> Run<'a> {
+fn done<'a>(input: &'a [u8], output: &'a [u8], priced: &'a [u8], screen: &'a str) -> Run<'a> {
     Run {
         words: &REPLAY,
         settings: SETTINGS,
         input,
         prices: &[],
-        room: [1000, 1000],
+        room: [1000, 1000, 1000],
         fails: &[],
         status: Status::Done,
         output,
+        priced,
         screen,
         bound: ALL,
     }

@@ -30,10 +30,11 @@ fn checked<'a>(
         settings: &[],
         input: &[],
         prices,
-        room: [0, room],
+        room: [0, 0, room],
         fails,
         status,
         output: &[],
+        priced: &[],
         screen,
         bound: CHECKED,
     }

@@ -1,4 +1,4 @@
-use super::{ALL, BOTH, FIRST, ONE_PLOT, PICTURE, REPLAY, Run, SETTINGS, compare};
+use super::{ALL, BOTH, EDITION, FIRST, ONE_PLOT, OPENED, PRICES, REPLAY, Run, SETTINGS, compare};
 use crate::{Spot, Status};
 use io_traits::Way;
 use settings_text::{KeyPath, SettingsFault};
@@ -28,10 +28,11 @@ fn refused<'a>(
         settings,
         input: &ONE_PLOT,
         prices: &[],
-        room: [1000, 1000],
+        room: [1000, 1000, 1000],
         fails,
         status: Status::Settings(fault),
         output: &[],
+        priced: &[],
         screen,
         bound: FIRST,
     }
@@ -70,22 +71,25 @@ fn broken<'a>(
         settings: SETTINGS,
         input: &ONE_PLOT,
         prices: &[],
-        room: [1000, 1000],
+        room: [1000, 1000, 1000],
         fails,
         status,
         output: &[],
+        priced: &[],
         screen,
         bound,
     }
 }
 
 /// The calls are the binding of Settings, a read of all of it and one at its end, the same of Input, the
-/// binding of Output, and one write to Output and to Screen. In the last run the text isn't written either.
+/// bindings of Output and Prices, one write to Prices, one to Output and one to Prices for the edition, and
+/// one to Screen. In the last run the text isn't written either.
 #[test]
 fn faults_of_places(rt: HostRuntime) -> Result<(), Fail> {
     let settings = Status::Read(Spot::Settings);
     let input = Status::Read(Spot::Input);
     let output = Status::Write(Spot::Output);
+    let prices = Status::Write(Spot::Prices);
     let runs = [
         broken(&[0], settings, "read: Settings\n", FIRST),
         broken(&[1], settings, "read: Settings\n", FIRST),
@@ -93,8 +97,9 @@ fn faults_of_places(rt: HostRuntime) -> Result<(), Fail> {
         broken(&[3], input, "read: Input\n", BOTH),
         broken(&[4], input, "read: Input\n", BOTH),
         broken(&[5], input, "read: Input\n", BOTH),
-        broken(&[6], output, "write: Output\n", ALL),
-        broken(&[7], output, "write: Output\n", ALL),
+        broken(&[6], output, "write: Output\n", OPENED),
+        broken(&[7], prices, "write: Prices\n", ALL),
+        broken(&[8], prices, "write: Prices\n", ALL),
         broken(&[4, 5], input, "", BOTH),
     ];
     compare(&rt, rt.alloc(), &runs)
@@ -103,10 +108,10 @@ fn faults_of_places(rt: HostRuntime) -> Result<(), Fail> {
 // A replay of these octets, with so much room.
 fn replayed<'a>(
     input: &'a [u8],
-    room: [usize; 2],
+    room: [usize; 3],
     fails: &'a [u64],
     status: Status,
-    output: &'a [u8],
+    got: [&'a [u8]; 2],
     screen: &'a str,
 ) -> Run<'a> {
     Run {
@@ -117,35 +122,35 @@ fn replayed<'a>(
         room,
         fails,
         status,
-        output,
+        output: got[0],
+        priced: got[1],
         screen,
         bound: ALL,
     }
 }
 
-/// A truncated input, told and not told; a screen that fails; and a write that takes the prefix that there is
-/// room for, after which the next fails.
+/// A truncated input, told and not told; a screen that fails; and writes that take the prefix that there is
+/// room for, after which the next fails: of the edition, and of its prices.
 #[test]
 fn ends_of_writing(rt: HostRuntime) -> Result<(), Fail> {
     let output = Status::Write(Spot::Output);
+    let prices = Status::Write(Spot::Prices);
     let screen = Status::Write(Spot::Screen);
     let fault = Status::Input { offset: 27 };
     let cut = &ONE_PLOT[..32];
-    let all = [1000, 1000];
+    let room = [1000, 1000, 1000];
+    let begun: [&[u8]; 2] = [&[], &PRICES[..4]];
+    let whole: [&[u8]; 2] = [&EDITION, &PRICES];
+    let in_output: [&[u8]; 2] = [&EDITION[..10], &PRICES[..4]];
+    let in_prices: [&[u8]; 2] = [&EDITION, &PRICES[..30]];
     let runs = [
-        replayed(cut, all, &[], fault, &[], "input: offset 27\n"),
-        replayed(cut, all, &[7], fault, &[], ""),
-        replayed(&ONE_PLOT, all, &[8], screen, &PICTURE, "write: Screen\n"),
-        replayed(
-            &ONE_PLOT,
-            [10, 1000],
-            &[],
-            output,
-            &PICTURE[..10],
-            "write: Output\n",
-        ),
-        replayed(&ONE_PLOT, [1000, 9], &[], screen, &PICTURE, "editions "),
-        replayed(&ONE_PLOT, all, &[], Status::Done, &PICTURE, LINE),
+        replayed(cut, room, &[], fault, begun, "input: offset 27\n"),
+        replayed(cut, room, &[9], fault, begun, ""),
+        replayed(&ONE_PLOT, room, &[11], screen, whole, "write: Screen\n"),
+        replayed(&ONE_PLOT, [10, 1000, 1000], &[], output, in_output, "write: Output\n"),
+        replayed(&ONE_PLOT, [1000, 30, 1000], &[], prices, in_prices, "write: Prices\n"),
+        replayed(&ONE_PLOT, [1000, 1000, 9], &[], screen, whole, "editions "),
+        replayed(&ONE_PLOT, room, &[], Status::Done, whole, LINE),
     ];
     compare(&rt, rt.alloc(), &runs)
 }

@@ -31,10 +31,11 @@ fn drawn<'a>(
         settings: &[],
         input: &[],
         prices: &[],
-        room: [room, 1000],
+        room: [room, 0, 1000],
         fails,
         status,
         output,
+        priced: &[],
         screen,
         bound: OPEN,
     }

@@ -51,10 +51,11 @@ fn refused<'a>(words: &'a [&'a str]) -> Run<'a> {
         settings: SETTINGS,
         input: &ONE_PLOT,
         prices: &[],
-        room: [1000, 1000],
+        room: [1000, 1000, 1000],
         fails: &[],
         status: Status::Usage,
         output: &[],
+        priced: &[],
         screen: USAGE,
         bound: NONE,
     }

@@ -1,4 +1,5 @@
 use Rattle.std.proofs.Common.{rules, ◌≡◌, ap, subst, List, ℕ, Ok, Err}
+use Rattle.std.specs.Arc.{arc_value}
 use Rattle.std.specs.Prelude.{string_bytes}
 use Rattle.io_traits.specs.Host.{HostState}
 use Rattle.io_traits.specs.declared.host.Place.TheVariants as places
@@ -28,7 +29,7 @@ judged_so next document (statuses.NotProved index offset) host h = absurd h
 pub returns-in_err-document : goal.returns-in_err-document
 returns-in_err-document g c =
     let state = g.H.Host.state in
-    let next = input_script (string_bytes c.args.input) (string_bytes c.args.output) in
+    let next = input_script (string_bytes c.args.input) (string_bytes c.args.output) (string_bytes c.args.prices) in
     let s = c.in_err-document.field-0.0 in
     let is : c.from_residual.result ≡ Err s = search rules in
     let old = state c.args.host.now in
@@ -38,7 +39,7 @@ returns-in_err-document g c =
 pub returns-in_err-settings : goal.returns-in_err-settings
 returns-in_err-settings g c =
     let state = g.H.Host.state in
-    let next = input_script (string_bytes c.args.input) (string_bytes c.args.output) in
+    let next = input_script (string_bytes c.args.input) (string_bytes c.args.output) (string_bytes c.args.prices) in
     let document = c.in_ok-document.document.items in
     let s = c.in_err-settings.field-0.0 in
     let is : c.from_residual-in_err-settings.result ≡ Err s = search rules in
@@ -51,9 +52,9 @@ returns-in_err-settings g c =
 pub returns : goal.returns
 returns g c =
     let state = g.H.Host.state in
-    let next = input_script (string_bytes c.args.input) (string_bytes c.args.output) in
+    let next = input_script (string_bytes c.args.input) (string_bytes c.args.output) (string_bytes c.args.prices) in
     let document = c.in_ok-document.document.items in
-    let given = c.in_ok-settings.settings in
+    let given = arc_value c.in_ok-settings.settings in
     let good = subst (λ (d : List ℕ). IsSettingsAnswer d (Ok given)) c.deref.ensures.value c.in_ok-settings.ensures.ok in
     let end = end_of c.replay_under.result in
     let old = state c.args.host.now in

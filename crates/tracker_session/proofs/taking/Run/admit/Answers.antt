@@ -6,8 +6,8 @@ use Rattle.tracker_session.specs.Counting.{counted, others_in, with_told}
 use Rattle.tracker_session.proofs.Tallying.{admitted_taken, malformed_taken}
 use Rattle.tracker_session.proofs.taking.Run.admit.Goals as goal
 
-pub returns-in-Ok : goal.returns-in-Ok
-returns-in-Ok c =
+pub returns-in-Ok-clause-takes : goal.returns-in-Ok-clause-takes
+returns-in-Ok-clause-takes c =
     let settings = c.args.settings.now in
     let old = c.args.self.now in
     let d = c.in-Ok.ensures.delivered in
@@ -18,8 +18,8 @@ returns-in-Ok c =
     let other : c.more-self.result ≡ counted (old.counts.other + others_in event) = c.more-self.ensures ∙ (λ i. counted ((grown i).other + here i)) in
     admitted_taken settings c.args.feed c.args.octets.now d.0 event old _ d.1 d.2.is_delivery d.2.new_is (λ i. record (grown i) { other = other i })
 
-pub returns-in-Err-Malformed : goal.returns-in-Err-Malformed
-returns-in-Err-Malformed c =
+pub returns-in-Err-Malformed-clause-takes : goal.returns-in-Err-Malformed-clause-takes
+returns-in-Err-Malformed-clause-takes c =
     let m = c.in-Err-Malformed.field-0-0 in
     let fault : DatagramFault c.args.octets.now m.offset m.cause = search rules in
     let log : c.admit.new.self ≡ c.args.self.now.log = search rules in

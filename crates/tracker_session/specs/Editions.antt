@@ -1,0 +1,47 @@
+-- What is kept to give the editions of a log, and what is given of each.
+use Rattle.std.specs.Prelude.{◌≡◌, ℕ, List, length}
+use Rattle.admission_log.specs.declared.settings.Settings.{Settings}
+use Rattle.admission_log.specs.declared.events.Event.TheVariants.{Tick}
+use Rattle.admission_log.specs.Histories.{History, appended, first}
+use Rattle.admission_log.specs.Legality.{IsLegal}
+use Rattle.edition_form.specs.Prices.{ArePricesOf}
+use Rattle.io_traits.specs.Host.{HostState}
+use Rattle.io_traits.specs.declared.host.Place.TheVariants as places
+use Rattle.session_script.specs.Steps.{PlaceWritten, WritingBroke}
+use Rattle.session_script.specs.declared.status.Status.{Status}
+use Rattle.tracker_engine.specs.Engines.{StandsFor}
+use Rattle.tracker_session.specs.declared.editions.Editions.{Editions}
+use Rattle.tracker_session.specs.declared.editions.EditionOctets.{EditionOctets}
+use Rattle.tracker_session.specs.Replay.{IsEditionAt, cuts_of, last_cut, newest}
+
+-- All editions of the log were given: they are counted, and the engine stands for the events up to the last one, which it has shown.
+pub record AreGiven (settings : Settings) (log : History) (editions : Editions) : Type 0 where
+  pub number_is : editions.number ≡ length (cuts_of log)
+  pub cut_is : editions.cut ≡ last_cut log
+  pub stands : StandsFor settings (first editions.cut log) editions.cut editions.cut editions.engine
+
+-- The last event of a legal log is a tick, and all editions before it were given.
+pub record HasNext (settings : Settings) (log : History) (editions : Editions) : Type 0 where
+  pub earlier : History
+  pub time : ℕ
+  pub parts : log ≡ appended earlier (Tick time)
+  pub legal : IsLegal settings log
+  pub given : AreGiven settings earlier editions
+
+-- the octets are those of the log's newest edition, and of its prices
+pub record AreNewest (settings : Settings) (log : History) (octets : EditionOctets) : Type 0 where
+  pub output : IsEditionAt settings log (newest log) octets.output.items
+  pub prices : ArePricesOf settings log (newest log) octets.prices.items
+
+-- ---- written
+
+-- Output got the edition, and then Prices its prices.
+pub record EditionWritten (output prices : List ℕ) (old new : HostState) : Type 0 where
+  pub mid : HostState
+  pub first : PlaceWritten places.Output output old mid
+  pub second : PlaceWritten places.Prices prices mid new
+
+-- Writing either broke off.
+pub data EditionBroke (output prices : List ℕ) (status : Status) (old new : HostState) : Type 0 where
+  at_output : WritingBroke places.Output output status old new → EditionBroke output prices status old new
+  at_prices : (mid : HostState) → PlaceWritten places.Output output old mid → WritingBroke places.Prices prices status mid new → EditionBroke output prices status old new
