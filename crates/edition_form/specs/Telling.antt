@@ -39,7 +39,7 @@ old_first [] n2 = false
 old_first (o ∷ o2) [] = true
 old_first (o ∷ o2) (n ∷ n2) = nat_le o.line.number n.line.number
 
--- the line of the first of these, if its track is the first of the others
+-- whether its track is that of the first of these lines
 abbrev pub is_first : ShownLine → List ShownLine → Bool
 is_first o [] = false
 is_first o (n ∷ n2) = are_of_one_track o n

@@ -40,3 +40,8 @@ assigned_before n ts h = record {
       (subst (IsStrictlySortedBy (λ t u. key_cmp t.birth u.birth)) (sym (bare_assigned ts)) (map_sorted (λ t u. key_cmp t.birth u.birth) (with_number None) ts h.rising));
   each = all_from_bare n (assigned ts) (subst (AllByRecursion (IsFromBefore n)) (sym (bare_assigned ts)) (all_bare n ts h.each));
 }
+
+-- an empty table is from before any slot
+pub none_before : (n : ℕ) → AreFromBefore n []
+unfolding IsStrictlySortedBy
+none_before n = record { rising = tt; each = tt }

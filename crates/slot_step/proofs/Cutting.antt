@@ -22,7 +22,7 @@ use Rattle.slot_step.proofs.Components.{get_at, rest_rises, sorted_at}
 use Rattle.slot_step.proofs.Paired.{map_one}
 use Rattle.slot_step.proofs.Passing.{halves}
 use Rattle.std.proofs.Math.Seq.{drop-append_seam}
-use Rattle.slot_step.proofs.PartEdges.{all_take, all_two}
+use Rattle.slot_step.proofs.ComponentEdges.{all_take, all_two}
 
 abbrev pub Rise : List PlanePlot → Type 0
 Rise ps = IsStrictlySortedBy (λ p q. key_cmp p.key q.key) ps

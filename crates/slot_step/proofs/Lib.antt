@@ -14,8 +14,8 @@ pub mod Tracker
 pub mod Edges
 pub mod Near
 pub mod Passing
-pub mod PartEdges
-pub mod PartProblem
+pub mod ComponentEdges
+pub mod ComponentProblem
 pub mod Telling
 pub mod Placing
 pub mod Paired

@@ -23,14 +23,14 @@ use Rattle.slot_step.specs.Certificates.{Certificate, plots, IsAt}
 use Rattle.slot_step.specs.Components.{edge_pairs, IsSolved}
 use Rattle.slot_step.specs.Problems.{IsProblemOf}
 use Rattle.slot_step.specs.Told.{told}
-use Rattle.slot_step.specs.ToldParts.{IsPairedPart, AreToldBehind}
+use Rattle.slot_step.specs.ToldComponents.{IsPairedComponent, AreToldBehind}
 use Rattle.slot_step.specs.Tracker.{track_gate, tracking, ordered}
 use Rattle.slot_step.specs.declared.certs.KeyedCert.{KeyedCert}
 use Rattle.slot_step.proofs.Interleavings.{all_append, contains_cons, contains_none}
 use Rattle.slot_step.proofs.Batching.{least_length}
 use Rattle.slot_step.proofs.Certifying.{within}
 use Rattle.slot_step.proofs.Components.{at_from, at_map, at_get, all_at, zip_length, restricted, each_certified, all_certified, firsts_rise}
-use Rattle.slot_step.proofs.PartProblem.{few_tracks}
+use Rattle.slot_step.proofs.ComponentProblem.{few_tracks}
 use Rattle.slot_step.proofs.Placing.{is_in}
 use Rattle.slot_step.proofs.Tracker.{tracks_ordered}
 
@@ -58,7 +58,7 @@ pub record ArePaired (ts : List TrackState) (ps : List PlanePlot) (whole : Probl
 
 module _ (ts : List TrackState) (ps : List PlanePlot) (whole : Problem) (w : IsProblemOf track_gate ts ps whole) (few : length ts < 2 ^ 32 - 1) where
   -- a certificate has lists of the right lengths
-  good_cert : (part : Component) → IsComponent (length ps) (edge_pairs whole.edges) part → (keyed : KeyedCert) (old new : List (Option ℕ)) → IsPairedPart ts ps whole part keyed old new → IsCert keyed.cert
+  good_cert : (part : Component) → IsComponent (length ps) (edge_pairs whole.edges) part → (keyed : KeyedCert) (old new : List (Option ℕ)) → IsPairedComponent ts ps whole part keyed old new → IsCert keyed.cert
   good_cert part c keyed old new d =
       let cert : Certificate PlanePlot Key = d.told.certificate in
       let own_plots : cert.costs.plots ≡ length part.plots = ap (λ (p : Problem). p.plots) d.told.costs ∙ d.is_part.plots in
@@ -76,7 +76,7 @@ module _ (ts : List TrackState) (ps : List PlanePlot) (whole : Problem) (w : IsP
         v = ap length d.told.v ∙ d.solved.proves.track_prices ∙ sym (ap (λ (p : Problem). p.tracks) d.told.costs);
       })
 
-  certified : (life : LifeSettings) (part : Component) (keyed : KeyedCert) (old new : List (Option ℕ)) (d : IsPairedPart ts ps whole part keyed old new) → IsSolved (ordered life) ts ps whole part d.told.certificate
+  certified : (life : LifeSettings) (part : Component) (keyed : KeyedCert) (old new : List (Option ℕ)) (d : IsPairedComponent ts ps whole part keyed old new) → IsSolved (ordered life) ts ps whole part d.told.certificate
   certified life part keyed old new d = record {
     plots_at = d.told.plots_at;
     births_at = d.told.births_at;
@@ -102,7 +102,7 @@ module _ (ts : List TrackState) (ps : List PlanePlot) (whole : Problem) (w : IsP
       sym (at_map (λ i. get_or xs i None) None own a.0 plot a.1) ∙ ap (λ (zs : List (Option ℕ)). get_or zs a.0 None) e ∙ at_map (λ i. get_or ys i None) None own a.0 plot a.1
 
   pub paired_more : (parts : List Component) (before : List KeyedCert) (n : ℕ) (pairing : List (Option ℕ)) (certs : List KeyedCert) → ArePaired ts ps whole parts before n pairing certs → AreComponents (length ps) (edge_pairs whole.edges) parts
-      → (part : Component) → IsAt parts n part → (keyed : KeyedCert) (new : List (Option ℕ)) → IsPairedPart ts ps whole part keyed pairing new → ArePaired ts ps whole parts before (n + 1) new (certs ++ keyed ∷ [])
+      → (part : Component) → IsAt parts n part → (keyed : KeyedCert) (new : List (Option ℕ)) → IsPairedComponent ts ps whole part keyed pairing new → ArePaired ts ps whole parts before (n + 1) new (certs ++ keyed ∷ [])
   paired_more parts before n pairing certs h comps part a keyed new d =
       let s : suc n ≡ n + 1 = omega arith in
       let front : take (n + 1) parts ≡ take n parts ++ part ∷ [] = ap (λ m. take m parts) (sym s) ∙ take-suc parts n part (within parts n part a) ∙ ap (λ (p : Component). take n parts ++ p ∷ []) (at_get part parts n part a) in

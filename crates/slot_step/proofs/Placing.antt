@@ -9,7 +9,7 @@ use Rattle.assignment_dual.specs.Parts.{at_plots}
 use Rattle.cluster_split.proofs.Ranges.{rises_far}
 use Rattle.slot_step.proofs.Interleavings.{contains_first, contains_later, contains_cons, contains_none}
 use Rattle.slot_step.proofs.Components.{rest_rises}
-use Rattle.slot_step.proofs.PartEdges.{map_suc}
+use Rattle.slot_step.proofs.ComponentEdges.{map_suc}
 
 take_below : (ns : List ℕ) → IsStrictlyIncreasing ns → (k n : ℕ) → k < length ns → Contains (take k ns) n → n < get_or ns k 0
 take_below [] up k n lt c = absurd (omega (arith, lt))

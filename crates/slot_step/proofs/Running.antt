@@ -16,7 +16,7 @@ use Rattle.slot_step.specs.Batches.{Tracking, batch_step, of_radar, table_at}
 use Rattle.slot_step.specs.Slots.{Ordered, plot_radar, radar_limit, unexpired, batch_table, run}
 use Rattle.slot_step.specs.Certificates.{Certificate, IsAt, AreCertificatesOf, AreCertificatesBelow}
 use Rattle.slot_step.specs.Told.{told, AreTold}
-use Rattle.slot_step.specs.ToldParts.{AreToldBehind}
+use Rattle.slot_step.specs.ToldComponents.{AreToldBehind}
 use Rattle.slot_step.specs.Tracker.{tracking, ordered, run_tracks}
 use Rattle.slot_step.specs.declared.certs.KeyedCert.{KeyedCert}
 use Rattle.slot_step.proofs.Interleavings.{all_of, all_contains, contains_none, in_filter}
@@ -107,6 +107,10 @@ module _ (life : LifeSettings) (n : ℕ) (ts : List TrackState) (bs : List Batch
     all = refl;
     good = tt;
   }
+
+  -- at the start of the next batch
+  pub run_start : (i : ℕ) (tracks : List TrackState) (certs : List KeyedCert) → HasRun life n ts bs i tracks certs → (b : Batch) → IsAt bs i b → tracks ≡ batch_table (tracking life) (ordered life) ts n (plots_of bs) b.radar
+  run_start i tracks certs g b a = g.tracks_are ∙ (skipped_to g.radar b.radar g.certificates (g.later i b a (omega arith)) (λ q l u. gap i b g.radar q a g.passed l u) g.below).0
 
   pub run_more : (i : ℕ) (tracks : List TrackState) (certs : List KeyedCert) → HasRun life n ts bs i tracks certs → (b : Batch) → IsAt bs i b → (tracks' : List TrackState) (certs' : List KeyedCert) → tracks' ≡ batch_step (tracking life) tracks b.plots
       → length tracks' < 2 ^ 32 - 1 → AreToldBehind life tracks b.plots certs certs' → AllGood certs' → HasRun life n ts bs (i + 1) tracks' certs'

@@ -8,7 +8,7 @@ use Rattle.cluster_split.specs.declared.splitting.Component.{Component}
 use Rattle.track_life.specs.Tracks.{TrackState}
 use Rattle.slot_step.specs.Certificates.{IsAt}
 use Rattle.slot_step.specs.Components.{AreAt}
-use Rattle.slot_step.specs.ToldParts.{IsToldOf}
+use Rattle.slot_step.specs.ToldComponents.{IsToldOf}
 use Rattle.slot_step.proofs.Components.{at_get}
 use Rattle.slot_step.proofs.Problems.{stands}
 

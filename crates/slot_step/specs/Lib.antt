@@ -12,6 +12,6 @@ pub mod OneBatch
 pub mod Calls
 pub mod Told
 pub mod Gates
-pub mod PartGates
-pub mod ToldParts
+pub mod ComponentEdges
+pub mod ToldComponents
 pub mod Moving

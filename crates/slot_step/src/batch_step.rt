@@ -6,7 +6,7 @@ ghost use Rattle.trk_base.specs.Keys.{key_cmp};
 ghost use Rattle.price_form.specs.Certificates.{IsCert};
 ghost use Rattle.slot_step.specs.Batches.{batch_step};
 ghost use Rattle.slot_step.specs.Calls.{AreNear};
-ghost use Rattle.slot_step.specs.ToldParts.{AreToldBehind};
+ghost use Rattle.slot_step.specs.ToldComponents.{AreToldBehind};
 ghost use Rattle.slot_step.specs.Tracker.{tracking};
 
 use crate::KeyedCert;

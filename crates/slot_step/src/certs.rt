@@ -3,7 +3,7 @@ ghost use Rattle.std.specs.Prelude.{◌≡◌, ◌<◌, List, map, length, All, 
 ghost use Rattle.trk_base.specs.declared.keys.Key.{Key as Birth};
 ghost use Rattle.plot_geometry.specs.Plots.{PlanePlot as Plot};
 ghost use Rattle.slot_step.specs.Components.{AreAt};
-ghost use Rattle.slot_step.specs.ToldParts.{IsToldOf};
+ghost use Rattle.slot_step.specs.ToldComponents.{IsToldOf};
 
 use assignment_dual::{Costs, Solved};
 use cluster_split::Component;
@@ -62,18 +62,18 @@ fn birth_arrivals(alloc: Global, indices: &[u32], tracks: &[Track]) -> Result<Ve
 /// The certificate of a component, whose own problem has this solution.
 pub(crate) fn cert_of(
     alloc: Global,
-    part: &Component,
+    component: &Component,
     tracks: &[Track],
     plots: &[PlanePlot],
     costs: Costs,
     solved: Solved,
 ) -> Result<KeyedCert, NoMemory>
-    requires some { 0 < length part.now.plots }
-    requires plots { All (λ i. i < length plots.now) part.now.plots }
-    requires tracks { All (λ i. i < length tracks.now) part.now.tracks }
-    ensures { IfOk result (λ keyed. IsToldOf tracks.now plots.now part.now costs solved.pairing solved.u solved.v keyed) }
+    requires some { 0 < length component.now.plots }
+    requires plots { All (λ i. i < length plots.now) component.now.plots }
+    requires tracks { All (λ i. i < length tracks.now) component.now.tracks }
+    ensures { IfOk result (λ keyed. IsToldOf tracks.now plots.now component.now costs solved.pairing solved.u solved.v keyed) }
 {
-    let first = &plots[part.plots.as_slice()[0] as usize];
+    let first = &plots[component.plots.as_slice()[0] as usize];
     let least = first.key;
     let Solved {
         pairing,
@@ -86,8 +86,8 @@ pub(crate) fn cert_of(
         cert: Cert {
             slot: least.slot,
             radar: least.radar,
-            plots: Sequence::of(plot_arrivals(alloc, part.plots.as_slice(), plots)?),
-            tracks: Sequence::of(birth_arrivals(alloc, part.tracks.as_slice(), tracks)?),
+            plots: Sequence::of(plot_arrivals(alloc, component.plots.as_slice(), plots)?),
+            tracks: Sequence::of(birth_arrivals(alloc, component.tracks.as_slice(), tracks)?),
             costs,
             pairing,
             u,

@@ -4,20 +4,21 @@
 //! with none begins a track (Bar-Shalom, Li, Kirubarajan, "Estimation with Applications to Tracking
 //! and Navigation", 1.4: data association, track formation and maintenance).
 //!
-//! So far this crate has the definitions, over any tracks, plots and keys, and the laws that the
-//! layers above rest on: a run in parts, a slot without plots, and numbers that no run reads.
+//! A batch's pairing is found component by component of its gates, and each component gives a
+//! certificate: prices that prove its pairing least. The laws are over any tracks, plots and keys: a
+//! run in parts, a slot without plots, and numbers that no run reads.
 #![tactic(auto)]
 
 mod batch_step;
 mod batches;
 mod certs;
+mod component_costs;
 mod gates;
 mod laws;
 mod moving;
 mod pairing;
-mod parts;
-mod reaching;
 mod slots;
+mod starts;
 #[cfg(test)]
 mod tests;
 
@@ -28,5 +29,5 @@ pub use laws::{
     merged_tables, problem_of_batch, resting, run_in_parts, run_in_two_parts, tables_before,
     tracker_laws, two_batches, unread_numbers,
 };
-pub use reaching::{batch_tables, reaches};
 pub use slots::{SlotRan, slot_run, slot_step};
+pub use starts::batch_tables;

@@ -12,11 +12,11 @@ ghost use Rattle.slot_step.specs.Batches.{least};
 ghost use Rattle.slot_step.specs.Components.{edge_pairs};
 ghost use Rattle.slot_step.specs.Problems.{IsProblemOf};
 ghost use Rattle.slot_step.specs.Tracker.{track_gate, tracking};
-ghost use Rattle.slot_step.specs.ToldParts.{IsPairedPart, AreToldBehind};
+ghost use Rattle.slot_step.specs.ToldComponents.{IsPairedComponent, AreToldBehind};
 
 use crate::KeyedCert;
 use crate::certs::cert_of;
-use crate::parts::part_costs;
+use crate::component_costs::component_costs;
 use assignment_dual::{Costs, solve};
 use cluster_split::{Component, components};
 use plot_geometry::PlanePlot;
@@ -48,41 +48,41 @@ fn table_entry(tracks: &[u32], entry: Option<u32>) -> Option<u32>
 }
 
 // Puts the component's pairing into the batch's.
-fn put_pairing(pairing: &mut [Option<u32>], part: &Component, own: &[Option<u32>])
-    requires plots { All (λ plot. plot < length pairing.old) part.now.plots }
-    requires rising { IsStrictlyIncreasing part.now.plots }
-    requires count { length own.now ≡ length part.now.plots }
-    requires tracks { All (λ x. IfSome x (λ t. t < length part.now.tracks)) own.now }
+fn put_pairing(pairing: &mut [Option<u32>], component: &Component, own: &[Option<u32>])
+    requires plots { All (λ plot. plot < length pairing.old) component.now.plots }
+    requires rising { IsStrictlyIncreasing component.now.plots }
+    requires count { length own.now ≡ length component.now.plots }
+    requires tracks { All (λ x. IfSome x (λ t. t < length component.now.tracks)) own.now }
     ensures count { length pairing.new ≡ length pairing.old }
-    ensures own { at_plots None pairing.new part.now.plots ≡ renumbered part.now.tracks own.now }
-    ensures others { (plot : ℕ) → (Contains part.now.plots plot → ⊥) → get_or pairing.new plot None ≡ get_or pairing.old plot None }
+    ensures own { at_plots None pairing.new component.now.plots ≡ renumbered component.now.tracks own.now }
+    ensures others { (plot : ℕ) → (Contains component.now.plots plot → ⊥) → get_or pairing.new plot None ≡ get_or pairing.old plot None }
 {
-    let tracks = part.tracks.as_slice();
-    for (index, plot) in part.plots.as_slice().iter().enumerate() {
+    let tracks = component.tracks.as_slice();
+    for (index, plot) in component.plots.as_slice().iter().enumerate() {
         pairing[*plot as usize] = table_entry(tracks, own[index]);
     }
 }
 
 // Pairs one component: its entries are put into the batch's pairing, and its certificate is told.
-fn pair_part(
+fn pair_component(
     alloc: Global,
     tracks: &[Track],
     plots: &[PlanePlot],
     whole: &Costs,
-    part: &Component,
+    component: &Component,
     pairing: &mut [Option<u32>],
 ) -> Result<KeyedCert, NoMemory>
     requires few_tracks { length tracks.now < 2 ^ 32 - 1 }
     requires few_plots { length plots.now < 2 ^ 32 }
     requires problem { IsProblemOf track_gate tracks.now plots.now whole.now }
-    requires part { IsComponent (length plots.now) (edge_pairs whole.now.edges) part.now }
+    requires component { IsComponent (length plots.now) (edge_pairs whole.now.edges) component.now }
     requires count { length pairing.old ≡ length plots.now }
-    ensures { IfOk result (λ keyed. IsPairedPart tracks.now plots.now whole.now part.now keyed pairing.old pairing.new) }
+    ensures { IfOk result (λ keyed. IsPairedComponent tracks.now plots.now whole.now component.now keyed pairing.old pairing.new) }
 {
-    let costs = part_costs(alloc, part, whole)?;
+    let costs = component_costs(alloc, component, whole)?;
     let solved = solve(alloc, &costs)?;
-    put_pairing(pairing, part, solved.pairing.as_slice());
-    cert_of(alloc, part, tracks, plots, costs, solved)
+    put_pairing(pairing, component, solved.pairing.as_slice());
+    cert_of(alloc, component, tracks, plots, costs, solved)
 }
 
 /// The least pairing of a batch, whose problem this is. The certificates of its components are put
@@ -106,8 +106,8 @@ pub(crate) fn pair(
     let pairs = pairs_of(alloc, whole.edges.as_slice())?;
     let parts = components(alloc, plots.len() as u32, &pairs)?;
     let mut pairing = vec![in alloc; None; plots.len()]?;
-    for part in &parts {
-        certs.push(pair_part(alloc, tracks, plots, whole, part, &mut pairing)?)?;
+    for component in &parts {
+        certs.push(pair_component(alloc, tracks, plots, whole, component, &mut pairing)?)?;
     }
     Ok(pairing)
 }

@@ -1,7 +1,9 @@
 // Slots whose tracks were worked by hand.
-ghost use Rattle.std.specs.Prelude.{◌≡◌, ◌≤◌};
+ghost use Rattle.std.specs.Prelude.{◌≡◌, ◌≤◌, All, IfOk};
+ghost use Rattle.price_form.specs.Certificates.{IsCert};
+ghost use Rattle.slot_step.specs.Calls.{AreBatches};
 
-use crate::{are_slot_plots, batches_of, slot_run, slot_step};
+use crate::{Batch, KeyedCert, are_slot_plots, batch_tables, batches_of, slot_run, slot_step};
 use plot_geometry::PlanePlot;
 use price_form::check;
 use std::alloc::Global;
@@ -10,7 +12,7 @@ use std::process::Abort;
 use std::sync::ledger::{Blank, Ledger};
 use std::test::Fail;
 use track_life::{LifeSettings, Table, Track};
-use trk_base::{Key, NoMemory, Steps, charge, slot_of};
+use trk_base::{Key, NoMemory, Steps, TryCopy, charge, slot_of};
 
 // A plot's time, radar, arrival, and place to the north in 1,000/64 m.
 type Row = (u64, u8, u64, u16);
@@ -20,9 +22,9 @@ type Told = (Option<u16>, bool, bool, u32, u64);
 
 // With how many plots a track is confirmed, the plots of the slots from 72,000 to 72,002, and the
 // tracks after them.
-type Scene<'a> = (u8, &'a [Row], &'a [Told]);
+type Case<'a> = (u8, &'a [Row], &'a [Told]);
 
-const SCENES: [Scene<'static>; 3] = [
+const CASES: [Case<'static>; 3] = [
     // The second radar's plot is older than the first one's, which began the track.
     (
         1,
@@ -102,7 +104,32 @@ fn life_of(hits: u8) -> LifeSettings
     }
 }
 
-// The table after the scene's slots.
+// The batches of a slot.
+fn batches_in(
+    rt: &impl Abort,
+    alloc: Global,
+    slot: u64,
+    plots: &[PlanePlot],
+) -> Result<Vec<Batch>, Fail>
+    ensures { IfOk result (λ v. AreBatches slot v.items) }
+{
+    assert!(rt; are_slot_plots(slot, plots));
+    Ok(batches_of(alloc, plots)?)
+}
+
+// Whether all these certificates prove.
+fn all_prove(certs: &[KeyedCert]) -> bool
+    requires { All (λ c. IsCert c.cert) certs.now }
+{
+    for keyed in certs {
+        if !check(&keyed.cert) {
+            return false;
+        }
+    }
+    true
+}
+
+// The table after the case's slots.
 fn fold<L: Ledger>(
     rt: &impl Abort,
     alloc: Global,
@@ -112,15 +139,21 @@ fn fold<L: Ledger>(
 ) -> Result<Table, Fail> {
     let mut table = Table::empty(alloc);
     for slot in 72_000..72_003 {
-        let plots = plots_in(alloc, slot, rows)?;
-        assert!(rt; are_slot_plots(slot, &plots));
-        let batches = batches_of(alloc, &plots)?;
+        let batches = batches_in(rt, alloc, slot, &plots_in(alloc, slot, rows)?)?;
         let mut ticket = charge(2, steps);
         let run = slot_run(alloc, &table, slot, &batches, life, &mut ticket)?;
         let step = slot_step(alloc, &table, slot, &batches, life, &mut ticket)?;
         assert_eq!(rt; run.table.tracks().len(), step.table.tracks().len());
         assert_eq!(rt; run.certs.len(), step.certs.len());
-        assert!(rt; step.certs.as_slice().iter().all(|keyed| check(&keyed.cert)));
+        let starts = batch_tables(alloc, &table, slot, &batches, life)?;
+        assert_eq!(rt; starts.len(), batches.len());
+        assert!(rt;
+            starts
+                .iter()
+                .all(|start| start.tracks().len() <= step.table.tracks().len())
+        );
+        assert!(rt; all_prove(step.certs.as_slice()));
+        assert!(rt; step.certs.copy(alloc)? == step.certs);
         table = step.table;
     }
     Ok(table)
@@ -132,7 +165,7 @@ fn folds<L: Ledger>(rt: &impl Abort, alloc: Global, blank: Blank) -> Result<(), 
     requires one { blank.parts ≡ 1 }
 {
     let mut steps: Steps<L> = Steps::new(blank);
-    for (hits, rows, expected) in SCENES {
+    for (hits, rows, expected) in CASES {
         assert!(rt; 1 <= hits && hits <= 8);
         let table = fold(rt, alloc, rows, &life_of(hits), &mut steps)?;
         let tracks = table.tracks();

@@ -1,5 +1,5 @@
 -- The entries of a log with more events.
-use Rattle.std.proofs.Common.{◌≡◌, ◌≢◌, ◌∙◌, ap, sym, refl, subst, ℕ, zero, suc, ◌+◌, ◌-◌, ◌≤◌, ◌<◌, List, [], ◌∷◌, ◌++◌, length, take, drop, map, append-nil, append_assoc, arith, inl, inr, Some}
+use Rattle.std.proofs.Common.{◌≡◌, ◌≢◌, ◌∙◌, ap, sym, refl, subst, ℕ, zero, suc, ◌+◌, ◌≤◌, List, [], ◌∷◌, ◌++◌, length, take, drop, map, append-nil, append_assoc, arith, inl, inr, Some}
 use Rattle.std.specs.Prelude.{slice_get, All}
 use Rattle.std.specs.List.{AllByRecursion, flat_map, enumerate_from}
 use Rattle.std.proofs.lemmas.Grind.{flat_map-append}
@@ -71,6 +71,7 @@ entries_cut log s within = sym (cut s (enumerate_from 0 log.events)) ∙ ap (λ 
     cut zero l = refl
     cut (suc s) [] = refl
     cut (suc s) (x ∷ l) = append_assoc (entries_in x.0 x.1) (flat_map (λ at. entries_in at.0 at.1) (take s l)) (flat_map (λ at. entries_in at.0 at.1) (drop s l)) ∙ ap (λ r. entries_in x.0 x.1 ++ r) (cut s l)
+
     taken : (k s : ℕ) (xs : List Event) → take s (enumerate_from k xs) ≡ enumerate_from k (take s xs)
     taken k zero xs = refl
     taken k (suc s) [] = refl
@@ -116,6 +117,7 @@ all_open settings log (e ∷ es) low legal le =
   where
     slots : (a b : ℕ) → a ≤ b → slot_of a ≤ slot_of b
     slots a b h = omega (arith, h)
+
     length_more : (xs : List Event) (x : Event) → length (xs ++ x ∷ []) ≡ length xs + 1
     length_more [] x = refl
     length_more (y ∷ xs) x = omega (arith, length_more xs x)

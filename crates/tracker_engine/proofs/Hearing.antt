@@ -1,5 +1,5 @@
 -- What an engine keeps of ticks and service messages is what the log tells.
-use Rattle.std.proofs.Common.{◌≡◌, ◌≢◌, ◌∙◌, ap, sym, refl, subst, ℕ, zero, suc, ◌+◌, ◌≤◌, ◌<◌, Bool, true, false, cond, eqb, max, List, [], ◌∷◌, ◌++◌, length, take, map, set, Option, Some, None, append_assoc, append-nil, arith}
+use Rattle.std.proofs.Common.{◌≡◌, ◌∙◌, ap, sym, refl, ℕ, zero, suc, ◌+◌, ◌≤◌, ◌<◌, Bool, true, false, cond, eqb, List, [], ◌∷◌, ◌++◌, length, map, set, Option, Some, None, append-nil, arith}
 use Rattle.std.specs.Prelude.{fold, ◌||◌}
 use Rattle.std.specs.List.{filter_map, enumerate_from, range_with_len, last_or, list_any, cons_option}
 use Rattle.std.specs.Option.{option_or}
@@ -12,7 +12,7 @@ use Rattle.admission_log.specs.declared.events.Event.{Event}
 use Rattle.admission_log.specs.declared.events.Event.TheVariants.{Deliver, Tick, Publish, Bias}
 use Rattle.admission_log.specs.declared.events.Outcome.{Outcome}
 use Rattle.admission_log.specs.declared.events.Outcome.TheVariants as outcomes
-use Rattle.admission_log.specs.Histories.{History, appended, first, last_of, tick_in}
+use Rattle.admission_log.specs.Histories.{History, appended, first, last_of}
 use Rattle.admission_log.proofs.Growing.{last-appended}
 use Rattle.edition_form.specs.Radars.{is_service, has_service, services_in, service_of, services_of}
 use Rattle.tracker_engine.specs.Hearing.{tick_after, heard, services_after, noted}
@@ -44,6 +44,7 @@ set_radar f k (suc n) zero y =
   where
     own : y ≡ cond (eqb (k + 0) k) y (f k)
     own = rw (eq-eqb (k + 0) k (omega arith)) refl
+
     others : by_radar f (k + 1) n ≡ by_radar (λ r. cond (eqb (k + 0) r) y (f r)) (k + 1) n
     others = alike f (λ r. cond (eqb (k + 0) r) y (f r)) (k + 1) n (λ r le. rw (ne_eqb (k + 0) r (λ e. omega (arith, e, le))) refl)
 set_radar f k (suc n) (suc i) y =
@@ -51,6 +52,7 @@ set_radar f k (suc n) (suc i) y =
   where
     next : k + 1 + i ≡ k + suc i
     next = omega arith
+
     own : f k ≡ cond (eqb (k + suc i) k) y (f k)
     own = rw (ne_eqb (k + suc i) k (λ e. omega (arith, e))) refl
 
@@ -98,20 +100,28 @@ service_more log e r =
   where
     old : ℕ × Event → Option ℕ
     old at = cond (has_service r at.1) (Some (last_of (first at.0 log))) None
+
     new : ℕ × Event → Option ℕ
     new at = cond (has_service r at.1) (Some (last_of (first at.0 (appended log e)))) None
+
     grown : services_in (appended log e) r ≡ filter_map new (enumerate_from 0 log.events) ++ filter_map new ((0 + length log.events, e) ∷ [])
     grown = ap (filter_map new) (enumerate-append 0 log.events (e ∷ [])) ∙ filter_map-append new (enumerate_from 0 log.events) ((0 + length log.events, e) ∷ [])
+
     taken : (i : ℕ) → i ≤ length log.events → last_of (first i (appended log e)) ≡ last_of (first i log)
     taken i le = ap (λ l. last_of (record { start = log.start; events = l })) (take-append-le i log.events (e ∷ []) le)
+
     same : filter_map new (enumerate_from 0 log.events) ≡ services_in log r
     same = same_kept new old 0 log.events (λ i x lt. ap (λ t. cond (has_service r x) (Some t) None) (taken i (omega (arith, lt))))
+
     none : 0 + length log.events ≡ length log.events
     none = omega arith
+
     whole : last_of (first (0 + length log.events) (appended log e)) ≡ last_of log
     whole = ap (λ n. last_of (first n (appended log e))) none ∙ ap (λ l. last_of (record { start = log.start; events = l })) (take-append_seam log.events (e ∷ []))
+
     one : filter_map new ((0 + length log.events, e) ∷ []) ≡ cons_option (cond (has_service r e) (Some (last_of log)) None) []
     one = ap (λ t. cons_option (cond (has_service r e) (Some t) None) []) whole
+
     of : (b : Bool) → option_or (cond b (Some (last_of log)) None) (service_of log r) ≡ cond b (Some (last_of log)) (service_of log r)
     of true = refl
     of false = refl

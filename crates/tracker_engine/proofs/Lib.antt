@@ -1,5 +1,10 @@
+pub mod Advancing
+pub mod Beginning
+pub mod Editions
 pub mod Entering
 pub mod Hearing
 pub mod Members
 pub mod Slots
 pub mod Standing
+pub mod States
+pub mod Tables

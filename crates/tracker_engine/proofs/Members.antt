@@ -1,6 +1,6 @@
 -- What stands in a list, by recursion, and lists of numbers that rise.
-use Rattle.std.proofs.Common.{◌≡◌, ◌≢◌, ap, sym, refl, subst, ℕ, zero, suc, ◌+◌, ◌≤◌, ◌<◌, ◌⊎◌, inl, inr, Bool, true, false, cond, eqb, ltb, List, [], ◌∷◌, ◌++◌, length, arith}
-use Rattle.std.specs.Prelude.{Contains, filter, nat_lt, Some, None}
+use Rattle.std.proofs.Common.{◌≡◌, sym, refl, subst, ℕ, zero, suc, ◌≤◌, ◌<◌, ◌⊎◌, inl, inr, Bool, true, false, cond, ltb, List, [], ◌∷◌, length, arith}
+use Rattle.std.specs.Prelude.{Contains, filter, nat_lt}
 use Rattle.std.specs.List.{AllByRecursion, list_all}
 use Rattle.std.specs.List.Sorted.{IsStrictlyIncreasing, IsStrictlySortedBy, IsPermutation}
 use Rattle.std.specs.Ordering.{nat_cmp}
@@ -75,9 +75,11 @@ rise_of ns up = of ns (sorted_from_strictly_increasing ns up)
   where
     below : (n m : ℕ) → nat_cmp n m ≡ Less → n < m
     below n m less = ranked n m Less (sym less)
+
     each : (n : ℕ) (ms : List ℕ) → AllByRecursion (λ m. nat_cmp n m ≡ Less) ms → AllByRecursion (λ m. n < m) ms
     each n [] h = tt
     each n (m ∷ ms) h = (below n m h.0, each n ms h.1)
+
     of : (ns : List ℕ) → IsStrictlySortedBy nat_cmp ns → Rise ns
     of [] h = tt
     of (n ∷ ns) h = (each n ns h.0, of ns h.1)
@@ -89,6 +91,7 @@ of_rise ns up = IsStrictlyIncreasing-from_sorted ns (of ns up)
     each : (n : ℕ) (ms : List ℕ) → AllByRecursion (λ m. n < m) ms → AllByRecursion (λ m. nat_cmp n m ≡ Less) ms
     each n [] h = tt
     each n (m ∷ ms) h = (less_of n m h.0, each n ms h.1)
+
     of : (ns : List ℕ) → Rise ns → IsStrictlySortedBy nat_cmp ns
     of [] h = tt
     of (n ∷ ns) h = (each n ns h.0, of ns h.1)

@@ -1,6 +1,6 @@
 -- The filled slots of entries: those that are settled, and those that are to be folded.
-use Rattle.std.proofs.Common.{◌≡◌, ◌≢◌, ◌∙◌, ap, sym, refl, subst, ℕ, zero, suc, ◌+◌, ◌≤◌, ◌<◌, ◌⊎◌, inl, inr, Bool, true, false, cond, eqb, ltb, leb, List, [], ◌∷◌, ◌++◌, length, take, drop, arith}
-use Rattle.std.specs.Prelude.{Contains, filter, nat_lt, nat_le, not, ◌&&◌, ◌||◌}
+use Rattle.std.proofs.Common.{◌≡◌, ◌≢◌, ap, sym, refl, subst, ℕ, ◌≤◌, ◌<◌, ◌⊎◌, inl, inr, Bool, true, false, eqb, ltb, leb, List, [], ◌∷◌, length, arith}
+use Rattle.std.specs.Prelude.{filter, nat_lt, nat_le, not, ◌&&◌, ◌||◌}
 use Rattle.std.specs.List.{AllByRecursion, list_all, list_any, flat_map, enumerate_from}
 use Rattle.std.proofs.lemmas.Bool.{lt-ltb, ltb-true, le-leb, leb-true, eq-eqb, eqb-true, cases_lt, cond_both, and_parts}
 use Rattle.std.proofs.lemmas.List.{take_all, drop_all}
@@ -8,23 +8,22 @@ use Rattle.std.proofs.lemmas.List.FromFn.{length-enumerate_from}
 use Rattle.std.proofs.lemmas.List.Sorted.{IsPermutation-sym}
 use Rattle.trk_base.specs.Numbers.{slot_of}
 use Rattle.late_window.specs.Folding.{Rises, below, from, slots, with_slot}
-use Rattle.late_window.specs.Windows.{Seen, folded, dirty_items, dirty_slots, is_folded}
+use Rattle.late_window.specs.Windows.{folded, dirty_items, dirty_slots, is_folded}
 use Rattle.late_window.proofs.Groups.{SlotsRise, slots_rise}
 use Rattle.late_window.proofs.Cuts.{slots_all, below_rise, from_rise}
 use Rattle.late_window.proofs.Lists.{all_weaker, all_append, all_left, all_right}
 use Rattle.late_window.proofs.Orders.{rises_filter}
-use Rattle.admission_log.specs.declared.settings.Settings.{Settings}
 use Rattle.admission_log.specs.declared.events.Event.{Event}
 use Rattle.admission_log.specs.declared.entries.Entry.{Entry}
 use Rattle.admission_log.specs.Entries.{entries_in, entries_of, slot_in}
 use Rattle.admission_log.specs.EntryOrder.{entry_cmp}
 use Rattle.admission_log.specs.Histories.{History, first, last_of}
-use Rattle.admission_log.proofs.Greatest.{Has, has_left, has_right, has_either, has_filtered, passes_filtered}
+use Rattle.admission_log.proofs.Greatest.{Has, has_right, has_either, has_filtered, passes_filtered}
 use Rattle.tracker_fold.specs.Keys.{key_in}
 use Rattle.tracker_fold.specs.Laws.{in_order}
-use Rattle.tracker_fold.specs.Folds.{AreEntriesOf}
+use Rattle.tracker_fold.specs.Folds.{AreEntriesOf, IsFilled}
 use Rattle.tracker_engine.specs.Engines.{EntryWindow, with_events}
-use Rattle.tracker_engine.specs.Spans.{entries_from, IsFilled, IsSettled, AreSettled, OpensSpan, IsInSpan, AreSpan}
+use Rattle.tracker_engine.specs.Spans.{entries_from, IsSettled, AreSettled, IsInSpan, AreSpan}
 use Rattle.tracker_engine.proofs.Members.{has_of, of_has, has_moved, all_at, all_above, above_all, all_or, Rise, rise_of, of_rise, rise_filter, fewer}
 use Rattle.tracker_engine.proofs.Entering.{new_entries, first_more, from_more, entries_cut}
 
@@ -77,6 +76,20 @@ whole_first log = ap (λ l. record { start = log.start; events = l }) (take_all 
 none_from : (log : History) → entries_from (length log.events) log ≡ []
 none_from log = ap (flat_map (λ at. entries_in at.0 at.1)) (drop_all (length log.events) (enumerate_from 0 log.events) (omega (arith, length-enumerate_from 0 log.events)))
 
+-- where all events are settled, so is each slot that is filled and over
+pub whole_settled : (log : History) (n : ℕ) → n < slot_of (last_of log) → IsFilled (entries_of log) n → IsSettled log (length log.events) n
+whole_settled log n over filled = record {
+  over = subst (λ l. n < slot_of (last_of l)) (sym (whole_first log)) over;
+  filled = subst (λ l. IsFilled (entries_of l) n) (sym (whole_first log)) filled;
+  later = subst (AllByRecursion (λ e. n < slot_in e)) (sym (none_from log)) tt;
+}
+
+pub settled_over : (log : History) (n : ℕ) → IsSettled log (length log.events) n → n < slot_of (last_of log)
+settled_over log n is = subst (λ l. n < slot_of (last_of l)) (whole_first log) is.over
+
+pub settled_filled : (log : History) (n : ℕ) → IsSettled log (length log.events) n → IsFilled (entries_of log) n
+settled_filled log n is = subst (λ l. IsFilled (entries_of l) n) (whole_first log) is.filled
+
 module _ (log : History) (es : List Event) (s : ℕ) (within : s ≤ length log.events) where
   grown_settled : (n : ℕ) → IsSettled log s n → AllByRecursion (λ e. n < slot_in e) (new_entries log es) → IsSettled (with_events log es) s n
   grown_settled n h new = record {
@@ -101,9 +114,9 @@ module _ (log : History) (es : List Event) (s : ℕ) (within : s ≤ length log.
     rising = of_rise _ (rise_filter test ns (rise_of ns h.rising));
     all = λ n. (
       λ there. (let kept = passes_filtered test n ns (has_of n (filter test ns) there) in let is = (h.all n).0 (of_has n ns kept.0) in
-        (is.0, grown_settled n is.1 (all_above slot_in n (new_entries log es) kept.1))),
+          (is.0, grown_settled n is.1 (all_above slot_in n (new_entries log es) kept.1))),
       λ is. (let was = was_settled n is.1 in
-        of_has n (filter test ns) (has_filtered test n ns (has_of n ns ((h.all n).1 (is.0, was.0))) (above_all slot_in n (new_entries log es) was.1))),
+          of_has n (filter test ns) (has_filtered test n ns (has_of n ns ((h.all n).1 (is.0, was.0))) (above_all slot_in n (new_entries log es) was.1))),
     );
   }
     where
@@ -134,8 +147,10 @@ module _ (log : History) (all : List Entry) (o : AreEntriesOf log all) (w : Entr
     where
       upto : ℕ
       upto = slot_of (last_of log)
+
       over : List Entry
       over = below slot_in upto w.items
+
       to : (n : ℕ) → Has n (filter (λ n. leb low n) (slots slot_in over)) → (low ≤ n) × IsSettled log (length log.events) n
       to n h =
           let kept = passes_filtered (λ n. leb low n) n (slots slot_in over) h in
@@ -143,16 +158,13 @@ module _ (log : History) (all : List Entry) (o : AreEntriesOf log all) (w : Entr
           let under = passes_filtered (λ y. ltb (slot_in y) upto) x.0 w.items x.1 in
           let lt : n < upto = subst (λ m. m < upto) x.2 (ltb-true (slot_in x.0) upto under.1) in (
             leb-true low n kept.1,
-            record {
-              over = subst (λ l. n < slot_of (last_of l)) (sym (whole_first log)) lt;
-              filled = subst (λ l. IsFilled (entries_of l) n) (sym (whole_first log)) (record { entry = x.0; there = of_has x.0 (entries_of log) (kept_in x.0 under.0).0; of_slot = x.2 });
-              later = subst (AllByRecursion (λ e. n < slot_in e)) (sym (none_from log)) tt;
-            },
+            whole_settled log n lt (record { entry = x.0; there = of_has x.0 (entries_of log) (kept_in x.0 under.0).0; of_slot = x.2 }),
           )
+
       back : (n : ℕ) → low ≤ n → IsSettled log (length log.events) n → Has n (filter (λ n. leb low n) (slots slot_in over))
       back n ge is =
-          let filled = subst (λ l. IsFilled (entries_of l) n) (whole_first log) is.filled in
-          let lt : n < upto = subst (λ l. n < slot_of (last_of l)) (whole_first log) is.over in
+          let filled = settled_filled log n is in
+          let lt : n < upto = settled_over log n is in
           let e = filled.entry in
           let kept = in_kept e (has_of e (entries_of log) filled.there) (omega (arith, le, ge, filled.of_slot)) in
           let under : Has e over = has_filtered (λ y. ltb (slot_in y) upto) e w.items kept (lt-ltb (slot_in e) upto (omega (arith, lt, filled.of_slot))) in
@@ -204,15 +216,20 @@ module _ (log : History) (all : List Entry) (o : AreEntriesOf log all) (w : Entr
       where
         upto : ℕ
         upto = slot_of (last_of log)
+
         test : Entry → Bool
         test x = ltb (slot_in x) upto && not (is_folded w (slot_in x))
+
         dirty : List Entry
         dirty = dirty_items slot_in w upto
+
         rises : Rises entry_cmp key_in w.items
         rises = subst (Rises entry_cmp key_in) (sym items) (rises_filter entry_cmp key_in (λ y. leb w.low (slot_in y)) all o.rise)
+
         unfolded : (b : Bool) → not b ≡ true → b ≡ false
         unfolded true e = absurd (cc)
         unfolded false e = refl
+
         within_span : (n : ℕ) → Has n (slots slot_in dirty) → Has n spanned
         within_span n h =
             let x = there_of slot_in n dirty h in

@@ -1,12 +1,12 @@
 -- What an engine stands for after it took in events, and after it was settled.
-use Rattle.std.proofs.Common.{◌≡◌, ◌∙◌, ap, sym, refl, subst, ℕ, ◌+◌, ◌-◌, ◌*◌, ◌≤◌, ◌<◌, Bool, true, false, cond, eqb, List, [], ◌∷◌, ◌++◌, length, take, Option, arith, length-append}
+use Rattle.std.proofs.Common.{◌≡◌, ◌∙◌, ap, sym, subst, ℕ, ◌+◌, ◌≤◌, cond, eqb, List, [], ◌++◌, length, Option, arith, length-append}
 use Rattle.std.specs.Prelude.{filter, nat_lt, nat_le, fold}
 use Rattle.std.specs.List.{AllByRecursion, list_all}
 use Rattle.std.specs.List.Sorted.{IsPermutation}
 use Rattle.std.proofs.lemmas.List.{take_all}
-use Rattle.std.proofs.lemmas.List.Sorted.{IsPermutation-sym, IsPermutation-trans, IsPermutation-append_comm}
+use Rattle.std.proofs.lemmas.List.Sorted.{IsPermutation-trans, IsPermutation-append_comm}
 use Rattle.trk_base.specs.Numbers.{slot_of}
-use Rattle.late_window.specs.Folding.{below, from, slots}
+use Rattle.late_window.specs.Folding.{below, slots}
 use Rattle.late_window.specs.Windows as windows
 use Rattle.late_window.specs.Windows.{folded, dirty_slots, AreNew, AreInOrder}
 use Rattle.admission_log.specs.declared.settings.Settings.{Settings}
@@ -18,13 +18,11 @@ use Rattle.admission_log.specs.Histories.{History, first, last_of, low_at}
 use Rattle.admission_log.specs.Legality.{IsLegal}
 use Rattle.admission_log.proofs.Prefixes.{last_prefix}
 use Rattle.admission_log.proofs.OwnKeys.{own_keys}
-use Rattle.admission_log.proofs.Greatest.{Has}
 use Rattle.tracker_fold.specs.Keys.{key_in}
 use Rattle.tracker_fold.specs.Starts.{start}
 use Rattle.tracker_fold.specs.Steps.{next, IsOut}
-use Rattle.edition_form.specs.Datagrams.{shown_at, shown_of}
-use Rattle.edition_form.specs.Radars.{services_of}
-use Rattle.tracker_engine.specs.Engines.{EngineState, EntryWindow, KeepsEntries, StandsFor, Continues, with_events}
+use Rattle.edition_form.specs.Datagrams.{shown_of}
+use Rattle.tracker_engine.specs.Engines.{EngineState, EntryWindow, StandsFor, with_events}
 use Rattle.tracker_engine.specs.Hearing.{noted}
 use Rattle.tracker_engine.specs.Spans.{AreSettled, AreSpan}
 use Rattle.tracker_engine.proofs.Entering.{new_entries, entries_more, first_more, all_open, are_new}

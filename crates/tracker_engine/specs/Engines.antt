@@ -1,5 +1,5 @@
 -- What an engine is seen as, and what it stands for.
-use Rattle.std.specs.Prelude.{◌≡◌, ◌-◌, ◌<◌, ◌≤◌, ◌^◌, ◌++◌, ℕ, List, length, Option}
+use Rattle.std.specs.Prelude.{◌≡◌, ◌≤◌, ◌++◌, ℕ, List, length, Option}
 use Rattle.trk_base.specs.Numbers.{slot_of}
 use Rattle.late_window.specs.Windows as windows
 use Rattle.late_window.specs.Windows.{Seen, folded}
@@ -9,7 +9,7 @@ use Rattle.admission_log.specs.declared.entries.Entry.{Entry}
 use Rattle.admission_log.specs.declared.events.Event.{Event}
 use Rattle.admission_log.specs.Entries.{entries_of, slot_in}
 use Rattle.admission_log.specs.EntryOrder.{entry_cmp}
-use Rattle.admission_log.specs.Histories.{History, first, last_of, low_at}
+use Rattle.admission_log.specs.Histories.{History, last_of, low_at}
 use Rattle.admission_log.specs.Legality.{IsLegal}
 use Rattle.tracker_fold.specs.declared.state.TrackerState.{TrackerState}
 use Rattle.tracker_fold.specs.Keys.{key_in}

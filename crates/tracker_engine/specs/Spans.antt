@@ -1,21 +1,16 @@
 -- Which slots of a log are settled after its first events, and which are to be folded at its last tick.
-use Rattle.std.specs.Prelude.{◌<◌, ◌≤◌, ◌≡◌, ◌⊎◌, ◌↔◌, ℕ, List, drop, Contains}
+use Rattle.std.specs.Prelude.{◌<◌, ◌≤◌, ◌⊎◌, ◌↔◌, ℕ, List, drop, Contains}
 use Rattle.std.specs.List.{AllByRecursion, flat_map, enumerate_from}
 use Rattle.std.specs.List.Sorted.{IsStrictlyIncreasing}
 use Rattle.trk_base.specs.Numbers.{slot_of}
 use Rattle.admission_log.specs.declared.entries.Entry.{Entry}
 use Rattle.admission_log.specs.Entries.{entries_in, entries_of, slot_in}
 use Rattle.admission_log.specs.Histories.{History, first, last_of}
+use Rattle.tracker_fold.specs.Folds.{IsFilled}
 
 -- the entries of the events from an index on
 abbrev pub entries_from : ℕ → History → List Entry
 entries_from index log = flat_map (λ at. entries_in at.0 at.1) (drop index (enumerate_from 0 log.events))
-
--- one of these entries is of slot n
-pub record IsFilled (entries : List Entry) (n : ℕ) : Type 0 where
-  pub entry : Entry
-  pub there : Contains entries entry
-  pub of_slot : slot_in entry ≡ n
 
 -- Slot n is settled after the first s events: it was over then, one of their entries fills it, and each entry of a later event is of a slot above it.
 pub record IsSettled (log : History) (s n : ℕ) : Type 0 where

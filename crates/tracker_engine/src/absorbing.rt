@@ -53,6 +53,7 @@ fn hear_all(last: u64, services: &mut [Option<u64>], outcomes: &[Outcome])
     }
 }
 
+// .. if this message came then.
 fn hear(last: u64, services: &mut [Option<u64>], outcome: &Outcome)
     ensures { services.new ≡ heard last services.old outcome.now }
 {

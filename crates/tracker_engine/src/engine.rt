@@ -1,10 +1,10 @@
 // What an engine is, and its calls.
-ghost use Rattle.std.specs.Prelude.{◌≡◌, ◌<◌, ◌≤◌, ◌+◌, ◌-◌, ◌*◌, ◌^◌, ℕ, List, [], All, length, IfOk, OnErr, OnOk};
+ghost use Rattle.std.specs.Prelude.{◌≡◌, ◌<◌, ◌≤◌, ◌+◌, ◌-◌, ◌*◌, ◌^◌, ℕ, List, [], length, All, IfOk, OnErr, OnOk};
 ghost use Rattle.std.specs.Arc.{arc_value};
+ghost use Rattle.price_form.specs.Certificates.{IsCert};
 ghost use Rattle.admission_log.specs.declared.settings.Settings.{Settings};
 ghost use Rattle.admission_log.specs.Histories.{History, low_at};
 ghost use Rattle.admission_log.specs.Legality.{IsLegal};
-ghost use Rattle.price_form.specs.Certificates.{IsCert};
 ghost use Rattle.edition_form.specs.Datagrams.{shown_at, shown_of};
 ghost use Rattle.edition_form.specs.Editions.{IsEdition};
 ghost use Rattle.edition_form.specs.Folding.{table_of};
@@ -78,7 +78,8 @@ impl Engine {
         })
     }
 
-    /// Takes in further events of the log. After an error none was taken in.
+    /// Takes in further events, which go on a legal log that the engine stands for. After an error
+    /// none was taken in.
     pub fn absorb(&mut self, events: &[Event]) -> Result<(), NoMemory>
         requires continues { Continues self.old events.now }
         ensures stands { (settings : Settings) (log : History) (settled before : ℕ) → StandsFor settings log settled before self.old → IsLegal settings (with_events log events.now) → OnOk result (StandsFor settings (with_events log events.now) settled before self.new) }
@@ -93,7 +94,8 @@ impl Engine {
     }
 
     /// Brings the tracks up to the last tick: each filled slot that is over, from the first that is new
-    /// or was reopened on. After an error the engine stands for the same events as before.
+    /// or was reopened on. It takes at most 31 steps for each of them, also where it fails. After an
+    /// error the engine is as it was.
     pub fn settle<L: Ledger>(&mut self, steps: &mut Steps<L>) -> Result<(), NoMemory>
         ensures stands { (settings : Settings) (log : History) (settled before : ℕ) → StandsFor settings log settled before self.old → OnOk result (StandsFor settings log (length log.events) before self.new) }
         ensures err { OnErr result (self.new ≡ self.old) }
@@ -106,15 +108,17 @@ impl Engine {
         Ok(())
     }
 
-    /// The tracks after the last `settle`.
+    /// The tracks of the log where all of it is settled: those of the slots that are over at its
+    /// last tick.
     pub fn table(&self) -> &Table
         ensures { (settings : Settings) (log : History) (before : ℕ) → StandsFor settings log (length log.events) before self.now → result.now ≡ table_of settings log }
     {
         &self.window.state().table
     }
 
-    /// The edition of all events that were taken in, and the lines that it shows. `number` is its
-    /// number, from 1.
+    /// The edition of all events that were taken in, which are settled, and the lines that it shows:
+    /// the cut is the count of events, and tracks are told against the edition before. `number` is
+    /// its number, from 1.
     pub fn edition(&self, number: u64) -> Result<Built, NoMemory>
         requires settled { IsAllSettled self.now }
         requires from_one { 1 ≤ number }

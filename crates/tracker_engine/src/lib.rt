@@ -7,5 +7,7 @@
 mod absorbing;
 mod engine;
 mod showing;
+#[cfg(test)]
+mod tests;
 
 pub use engine::Engine;

@@ -1,9 +1,10 @@
 // What an edition shows beside the tracks: the biases that hold, and certificates.
-ghost use Rattle.std.specs.Prelude.{◌≡◌, ◌++◌, nat_le, filter, flat_map, map, IfOk, OnOk};
-ghost use Rattle.std.specs.List.Sorted.{IsNonDecreasingBy};
-ghost use Rattle.late_window.specs.Folding.{at_slot};
+ghost use Rattle.std.specs.Prelude.{◌≡◌, ◌<◌, ◌≤◌, ◌+◌, ◌^◌, ◌++◌, nat_le, filter, flat_map, length, map, take, drop, IfOk, OnOk};
+ghost use Rattle.late_window.specs.Folding.{Rises, at_slot, below, from};
 ghost use Rattle.plot_geometry.specs.Biases.{bias_of};
 ghost use Rattle.admission_log.specs.Entries.{slot_in};
+ghost use Rattle.admission_log.specs.EntryOrder.{entry_cmp};
+ghost use Rattle.tracker_fold.specs.Keys.{key_in};
 ghost use Rattle.tracker_fold.specs.Steps.{radars_after};
 
 use admission_log::Entry;
@@ -22,7 +23,8 @@ pub fn biases_at(
     slot: u64,
     entries: &[Entry],
 ) -> Result<Vec<Bias>, NoMemory>
-    requires rising { IsNonDecreasingBy slot_in entries.now }
+    requires rising { Rises entry_cmp key_in entries.now }
+    requires room { slot + 1 < 2 ^ 64 }
     ensures { IfOk result (λ v. v.items ≡ map bias_of (radars_after radars.now (at_slot slot_in slot entries.now))) }
 {
     let changed = radars_after(alloc, radars, of_slot(entries, slot))?;
@@ -35,13 +37,22 @@ pub fn biases_at(
 
 // Those of one slot.
 fn of_slot(entries: &[Entry], slot: u64) -> &[Entry]
-    requires rising { IsNonDecreasingBy slot_in entries.now }
+    requires rising { Rises entry_cmp key_in entries.now }
+    requires room { slot + 1 < 2 ^ 64 }
     ensures { result.now ≡ at_slot slot_in slot entries.now }
 {
-    let first = entries.partition_point(|entry| entry.slot() < slot);
-    let (_, rest) = entries.split_at(first);
-    let count = rest.partition_point(|entry| entry.slot() <= slot);
-    rest.split_at(count).0
+    let (_, rest) = entries.split_at(count_below(entries, slot));
+    rest.split_at(count_below(rest, slot + 1)).0
+}
+
+// How many entries are of slots below this one.
+fn count_below(entries: &[Entry], slot: u64) -> usize
+    requires rising { Rises entry_cmp key_in entries.now }
+    ensures within { result ≤ length entries.now }
+    ensures below { take result entries.now ≡ below slot_in slot entries.now }
+    ensures rest { drop result entries.now ≡ from slot_in slot entries.now }
+{
+    entries.partition_point(|entry| entry.slot() < slot)
 }
 
 /// The certificates of the slots from `low` on.
@@ -62,11 +73,7 @@ pub fn certs_from(
 }
 
 // Puts the certificates of a slot after others.
-fn append_certs(
-    alloc: Global,
-    told: &[KeyedCert],
-    certs: &mut Vec<Cert>,
-) -> Result<(), NoMemory>
+fn append_certs(alloc: Global, told: &[KeyedCert], certs: &mut Vec<Cert>) -> Result<(), NoMemory>
     ensures { OnOk result (certs.new.items ≡ certs.old.items ++ map (λ k. k.cert) told.now) }
 {
     for keyed in told {

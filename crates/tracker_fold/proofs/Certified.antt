@@ -1,11 +1,11 @@
 -- The certificates of a log, by the certificates of its entries' slots.
-use Rattle.std.proofs.Common.{◌≡◌, ◌∙◌, ap, sym, subst, refl, ℕ, ◌<◌, ◌≤◌, ◌^◌, Bool, true, false, cond, eqb, leb, List, [], ◌∷◌, ◌++◌, map, length, Option, Some, None, inl, inr, arith}
+use Rattle.std.proofs.Common.{◌≡◌, ◌∙◌, ap, sym, subst, refl, ℕ, ◌<◌, ◌≤◌, ◌^◌, Bool, true, false, cond, List, [], ◌∷◌, ◌++◌, map, length, Option, Some, None, inl, inr}
 use Rattle.std.specs.Prelude.{filter, nat_le, nat_lt, Contains, IfSome, filter_map}
 use Rattle.std.specs.List.{AllByRecursion, flat_map, cons_option}
 use Rattle.std.specs.List.Sorted.{IsStrictlySortedBy}
 use Rattle.std.specs.Ordering.{nat_cmp, ordering_then}
 use Rattle.std.specs.declared.cmp.Ordering.TheVariants.{Less}
-use Rattle.std.proofs.lemmas.Bool.{cases_Bool, cond_both, leb-true, le-leb, ltb-true}
+use Rattle.std.proofs.lemmas.Bool.{leb-true, le-leb, ltb-true}
 use Rattle.std.proofs.lemmas.List.Kept.{IsStrictlyIncreasing-filter}
 use Rattle.std.proofs.lemmas.List.Sorted.{IsPermutation-sym, Contains-permutation}
 use Rattle.trk_base.specs.Keys.{key_cmp}
@@ -28,7 +28,7 @@ use Rattle.admission_log.specs.Entries.{entries_of, slot_in}
 use Rattle.admission_log.specs.Plots.{plots_of}
 use Rattle.tracker_fold.specs.Starts.{start}
 use Rattle.tracker_fold.specs.Steps.{next, IsOut}
-use Rattle.tracker_fold.specs.Folds.{AreEntriesOf, state_before, slot_of_plot, tracks_before, IsFilled, AreFilledFrom, AreCertificatesFrom}
+use Rattle.tracker_fold.specs.Folds.{AreEntriesOf, slot_of_plot, tracks_before, IsFilled, AreFilledFrom, AreCertificatesFrom}
 use Rattle.tracker_fold.specs.PlaneOrder.{HasKey, keys_rise, slot_is}
 use Rattle.tracker_fold.proofs.FilledSlots.{some, filtered, same_rising, slots_increase, slots_have, slots_only, taken}
 use Rattle.tracker_fold.proofs.Folded.{out_is, out_none}
@@ -53,6 +53,7 @@ given f p (e ∷ es) c = of (f e) refl c (given f p es)
   where
     more : IsGiven f es p → IsGiven f (e ∷ es) p
     more g = record { entry = g.entry; there = contains_later e g.entry es g.there; gives = g.gives }
+
     of : (x : Option PlanePlot) → f e ≡ x → Contains (cons_option x (filter_map f es)) p → (Contains (filter_map f es) p → IsGiven f es p) → IsGiven f (e ∷ es) p
     of None is d rest = more (rest d)
     of (Some q) is d rest = elim (contains_cons q p (filter_map f es) d) [
@@ -87,16 +88,16 @@ module _ (settings : Settings) (log : History) where
         let plots = plots_of settings log in
         same_rising (filter has ns) (filter (nat_le low) (slots slot_of_plot plots)) (IsStrictlyIncreasing-filter has ns h.rising) (IsStrictlyIncreasing-filter (nat_le low) (slots slot_of_plot plots) (slots_increase slot_of_plot plots plots_rise))
         (λ z c.
-          let there = (h.all z).0 (in_filter has z ns c) in
-          filtered (nat_le low) z (slots slot_of_plot plots) (le-leb low z there.0) (slots_have slot_of_plot z plots (filter_passes has z ns c)))
+        let there = (h.all z).0 (in_filter has z ns c) in
+        filtered (nat_le low) z (slots slot_of_plot plots) (le-leb low z there.0) (slots_have slot_of_plot z plots (filter_passes has z ns c)))
         (λ z c.
-          let some_plot = slots_only slot_of_plot z plots (in_filter (nat_le low) z (slots slot_of_plot plots) c) in
-          let plot = taken slot_of_plot z plots some_plot in
-          let from = given (shown settings log) plot.item all (subst (λ (ps : List PlanePlot). Contains ps plot.item) (sym (plots_shown settings log all o)) plot.there) in
-          let slot : slot_in from.entry ≡ z = sym (own_slot from.entry plot.item from.gives) ∙ plot.of_slot in
-          let over = is_over from.entry plot.item from.gives in
-          let filled : IsFilled (entries_of log) z = record { entry = from.entry; there = Contains-permutation all (entries_of log) from.entry (IsPermutation-sym (entries_of log) all o.same) from.there; of_slot = slot } in
-          filtered has z ns some_plot ((h.all z).1 (leb-true low z (filter_passes (nat_le low) z (slots slot_of_plot plots) c), subst (λ n. n < slot_of (last_of log)) slot over, filled)))
+        let some_plot = slots_only slot_of_plot z plots (in_filter (nat_le low) z (slots slot_of_plot plots) c) in
+        let plot = taken slot_of_plot z plots some_plot in
+        let from = given (shown settings log) plot.item all (subst (λ (ps : List PlanePlot). Contains ps plot.item) (sym (plots_shown settings log all o)) plot.there) in
+        let slot : slot_in from.entry ≡ z = sym (own_slot from.entry plot.item from.gives) ∙ plot.of_slot in
+        let over = is_over from.entry plot.item from.gives in
+        let filled : IsFilled (entries_of log) z = record { entry = from.entry; there = Contains-permutation all (entries_of log) from.entry (IsPermutation-sym (entries_of log) all o.same) from.there; of_slot = slot } in
+        filtered has z ns some_plot ((h.all z).1 (leb-true low z (filter_passes (nat_le low) z (slots slot_of_plot plots) c), subst (λ n. n < slot_of (last_of log)) slot over, filled)))
 
     -- ---- what is told in slots with plots
 

@@ -1,8 +1,8 @@
 -- The fold of a log's entries is that of its plots.
-use Rattle.std.proofs.Common.{◌≡◌, ◌∙◌, ap, sym, subst, refl, ℕ, zero, suc, ◌+◌, ◌<◌, ◌≤◌, Bool, true, false, cond, eqb, ltb, leb, List, [], ◌∷◌, ◌++◌, length, map, Option, Some, None, arith, inl, inr}
-use Rattle.std.specs.Prelude.{slice_get, filter, fold, nat_le, Contains}
+use Rattle.std.proofs.Common.{◌≡◌, ◌∙◌, ap, sym, subst, refl, ℕ, zero, suc, ◌+◌, ◌<◌, ◌≤◌, true, eqb, ltb, List, [], ◌∷◌, ◌++◌, map, Option, Some, None, arith, inl, inr}
+use Rattle.std.specs.Prelude.{slice_get, fold, nat_le}
 use Rattle.std.specs.Option.{option_map}
-use Rattle.std.specs.List.{AllByRecursion, filter_map}
+use Rattle.std.specs.List.{AllByRecursion}
 use Rattle.std.proofs.lemmas.Bool.{cases_order, lt-ltb, le-ltb, le-leb, lt-leb, eq-eqb, ne_eqb, eqb-true, cases_lt}
 use Rattle.std.proofs.lemmas.List.Sums.{fold-append}
 use Rattle.trk_base.specs.Numbers.{slot_of}
@@ -15,7 +15,7 @@ use Rattle.track_life.specs.Tracks.{TrackState}
 use Rattle.late_window.specs.Folding.{InSlot, at_slot, below, from, before, stepped}
 use Rattle.late_window.proofs.Groups.{SlotsRise, slots_rise}
 use Rattle.late_window.proofs.Lists.{all_weaker, filter_same, filter_passing}
-use Rattle.late_window.proofs.Cuts.{cut_at, below_below, below_rise, below_none}
+use Rattle.late_window.proofs.Cuts.{cut_at, below_below, below_rise}
 use Rattle.slot_step.specs.declared.certs.KeyedCert.{KeyedCert}
 use Rattle.slot_step.specs.Certificates.{Certificate, IsCertificateIn}
 use Rattle.slot_step.specs.Tracker.{step_tracks, tracking, ordered}
@@ -30,7 +30,6 @@ use Rattle.admission_log.specs.Plots.{plots_of}
 use Rattle.tracker_fold.specs.declared.state.TrackerState.{TrackerState}
 use Rattle.tracker_fold.specs.Keys.{key_in}
 use Rattle.tracker_fold.specs.Laws.{in_order}
-use Rattle.tracker_fold.specs.Starts.{start}
 use Rattle.tracker_fold.specs.Steps.{changed, radars_after, planes, next, IsOut}
 use Rattle.tracker_fold.specs.Folds.{AreEntriesOf, state_before, slot_of_plot, tracks_before}
 use Rattle.tracker_fold.proofs.Greatest.{bias_stays}

@@ -1,5 +1,5 @@
 -- The greatest of the entries that pass a test doesn't depend on their order.
-use Rattle.std.proofs.Common.{◌≡◌, ◌∙◌, ap, sym, subst, refl, ℕ, ◌<◌, Bool, true, false, List, [], ◌∷◌, length, Option, Some, None, ◌⊎◌, inl, inr, arith}
+use Rattle.std.proofs.Common.{◌≡◌, ap, sym, subst, refl, ℕ, Bool, false, List, [], ◌∷◌, Some, inl, inr, arith}
 use Rattle.std.specs.Prelude.{filter, fold, Contains}
 use Rattle.std.specs.List.{reduce}
 use Rattle.std.specs.List.Sorted.{IsPermutation}
@@ -9,7 +9,7 @@ use Rattle.slot_step.proofs.Interleavings.{contains_first, contains_later, conta
 use Rattle.plot_geometry.specs.declared.biases.Bias as biases
 use Rattle.admission_log.specs.declared.entries.Entry.{Entry}
 use Rattle.admission_log.specs.EntryOrder.{entry_cmp, entry_cmp_total, entry_cmp_exact}
-use Rattle.admission_log.specs.Biases.{is_change, last_change, bias_or, bias_among}
+use Rattle.admission_log.specs.Biases.{is_change, bias_or, bias_among}
 use Rattle.admission_log.proofs.Greatest.{Has, has_filtered, passes_filtered, greatest_is}
 use Rattle.tracker_fold.proofs.SameOrder.{neither_below}
 
@@ -32,8 +32,10 @@ greatest_stays p xs ys moves = of (filter p xs) (filter p ys) refl refl
   where
     there : (x : Entry) → Has x (filter p xs) → Has x (filter p ys)
     there x h = passes_too p x xs ys moves h
+
     back : (x : Entry) → Has x (filter p ys) → Has x (filter p xs)
     back x h = passes_too p x ys xs (IsPermutation-sym xs ys moves) h
+
     of : (us vs : List Entry) → filter p xs ≡ us → filter p ys ≡ vs → reduce (ord_max entry_cmp) us ≡ reduce (ord_max entry_cmp) vs
     of [] [] e f = refl
     of [] (v ∷ vs) e f = absurd (subst (Has v) e (back v (subst (Has v) (sym f) (inl refl))))

@@ -1,24 +1,23 @@
 -- Radars after changes: each has the biases that the changes give for it.
-use Rattle.std.proofs.Common.{◌≡◌, ◌∙◌, ap, sym, subst, refl, ℕ, zero, suc, ◌≤◌, ◌<◌, Bool, true, false, cond, eqb, leb, List, [], ◌∷◌, ◌++◌, length, get_or, set, Option, Some, None, arith, inl, inr, ◌⊎◌}
+use Rattle.std.proofs.Common.{◌≡◌, ◌∙◌, ap, sym, refl, ℕ, zero, suc, ◌<◌, Bool, true, false, cond, eqb, List, [], ◌∷◌, length, set, Option, Some, None, arith, inl, inr}
 use Rattle.std.specs.Prelude.{filter, fold, nat_le, slice_get, ◌&&◌}
 use Rattle.std.specs.Option.{option_map}
 use Rattle.std.specs.List.{AllByRecursion, reduce}
-use Rattle.std.specs.Ordering.{is_lt, ord_max, ordering_reverse}
-use Rattle.std.specs.declared.cmp.Ordering.{Ordering}
-use Rattle.std.specs.declared.cmp.Ordering.TheVariants.{Less, Equal, Greater}
+use Rattle.std.specs.Ordering.{ord_max, ordering_reverse}
+use Rattle.std.specs.declared.cmp.Ordering.TheVariants.{Less}
 use Rattle.std.proofs.lemmas.Bool.{cond_both, cases_eq, cases_lt, cases_Bool, eqb-true, eq-eqb, ne_eqb, and_parts}
-use Rattle.std.proofs.lemmas.Option.{slice_get-get_or, slice_get_past, get_or_from_slice_get}
+use Rattle.std.proofs.lemmas.Option.{slice_get_past}
 use Rattle.plot_geometry.specs.declared.biases.Bias as biases
 use Rattle.plot_geometry.specs.declared.radars.RadarSettings.{RadarSettings}
 use Rattle.plot_geometry.specs.Biases.{bias_of, biased}
-use Rattle.late_window.specs.Folding.{ComesBefore, Rises}
+use Rattle.late_window.specs.Folding.{Rises}
 use Rattle.late_window.proofs.Orders.{rises_filter}
 use Rattle.late_window.proofs.Lists.{filter_passing}
 use Rattle.admission_log.specs.declared.entries.Entry.{Entry}
 use Rattle.admission_log.specs.declared.entries.Entry.TheVariants.{Bias, Plot}
 use Rattle.admission_log.specs.Entries.{slot_in}
 use Rattle.admission_log.specs.EntryOrder.{entry_cmp, entry_cmp_total}
-use Rattle.admission_log.specs.Biases.{is_change, last_change, bias_or, bias_among}
+use Rattle.admission_log.specs.Biases.{is_change, bias_or, bias_among}
 use Rattle.tracker_fold.specs.Keys.{key_in}
 use Rattle.tracker_fold.specs.Steps.{changed, with_radar}
 
@@ -61,13 +60,17 @@ one_changed rs (Bias slot place radar bias) i = at (slice_get rs radar) refl
     own : (r : Option RadarSettings) → r ≡ option_map (λ r. biased r (bias_of r)) r
     own None = refl
     own (Some r) = refl
+
     of : (found r : Option RadarSettings) (b : Bool) → (b ≡ true → r ≡ found) → cond b (option_map (λ r. biased r bias) found) r ≡ option_map (λ r. biased r (cond b bias (bias_of r))) r
     of found r true same = ap (option_map (λ r. biased r bias)) (sym (same refl))
     of found r false same = own r
+
     same_place : (found : Option RadarSettings) → slice_get rs radar ≡ found → eqb radar i ≡ true → slice_get rs i ≡ found
     same_place found e t = ap (slice_get rs) (sym (eqb-true radar i t)) ∙ e
+
     within : (r : RadarSettings) → slice_get rs radar ≡ Some r → radar < length rs
     within r e = elim (cases_lt radar (length rs)) [ inl lt ↦ lt | inr past ↦ absurd (let none : Some r ≡ None = sym e ∙ slice_get_past rs radar past in cc) ]
+
     at : (found : Option RadarSettings) → slice_get rs radar ≡ found → slice_get (with_radar rs radar (option_map (λ r. biased r bias) found)) i ≡ option_map (λ r. biased r (cond (eqb radar i) bias (bias_of r))) (slice_get rs i)
     at None e = cond_both (eqb radar i) None (slice_get rs i) (λ x. slice_get rs i ≡ x) (λ t. same_place None e t) (λ _. refl) ∙ of None (slice_get rs i) (eqb radar i) (same_place None e)
     at (Some r) e = get_set rs radar i (biased r bias) (within r e) ∙ of (Some r) (slice_get rs i) (eqb radar i) (same_place (Some r) e)

@@ -7,3 +7,4 @@ pub mod Moving
 pub mod Planes
 pub mod Plots
 pub mod SameOrder
+pub mod Starting

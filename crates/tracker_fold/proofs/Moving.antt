@@ -1,5 +1,5 @@
 -- The step of a slot with plots, and of one without.
-use Rattle.std.proofs.Common.{◌≡◌, ◌∙◌, ap, sym, refl, ℕ, ◌<◌, List, [], ◌∷◌, ◌++◌, Bool, true, false, eqb, length, arith, subst}
+use Rattle.std.proofs.Common.{◌≡◌, ◌∙◌, ap, sym, refl, ℕ, ◌<◌, List, [], ◌∷◌, ◌++◌, true, false, eqb, length, arith, subst}
 use Rattle.std.proofs.lemmas.Bool.{eqb-true, eqb-false}
 use Rattle.std.specs.Prelude.{Contains}
 use Rattle.std.specs.List.{AllByRecursion}
@@ -12,7 +12,7 @@ use Rattle.track_life.specs.Tracks.{TrackState}
 use Rattle.late_window.specs.Folding.{stepped}
 use Rattle.slot_step.specs.declared.certs.KeyedCert.{KeyedCert}
 use Rattle.slot_step.specs.OneBatch.{Batch, IsBatch}
-use Rattle.slot_step.specs.Calls.{AreBatches, plots_of}
+use Rattle.slot_step.specs.Calls.{plots_of}
 use Rattle.slot_step.specs.Tracker.{step_tracks}
 use Rattle.slot_step.specs.Told.{AreTold}
 use Rattle.admission_log.specs.declared.entries.Entry.{Entry}

@@ -1,12 +1,12 @@
 -- The plots of a log, by its entries.
-use Rattle.std.proofs.Common.{◌≡◌, ◌∙◌, ap, sym, subst, refl, ℕ, ◌+◌, ◌<◌, Bool, true, false, cond, List, [], ◌∷◌, ◌++◌, map, Option, Some, None, arith, ltb}
+use Rattle.std.proofs.Common.{◌≡◌, ◌∙◌, ap, sym, refl, ℕ, ◌+◌, ◌<◌, Bool, true, false, cond, List, [], ◌∷◌, ◌++◌, map, Option, Some, None, arith}
 use Rattle.std.specs.Prelude.{IfSome, slice_get, filter_map, sum_by, nat_lt}
 use Rattle.std.specs.Option.{option_map}
 use Rattle.std.specs.List.{AllByRecursion, cons_option, flat_map, enumerate_from}
-use Rattle.std.specs.List.Sorted.{IsStrictlySortedBy, IsPermutation}
-use Rattle.std.specs.Ordering.{is_lt, nat_cmp, ordering_then, ordering_reverse}
+use Rattle.std.specs.List.Sorted.{IsStrictlySortedBy}
+use Rattle.std.specs.Ordering.{is_lt, ordering_then, ordering_reverse}
 use Rattle.std.specs.declared.cmp.Ordering.{Ordering}
-use Rattle.std.specs.declared.cmp.Ordering.TheVariants.{Less, Equal, Greater}
+use Rattle.std.specs.declared.cmp.Ordering.TheVariants.{Less}
 use Rattle.std.proofs.lemmas.Bool.{lt-ltb}
 use Rattle.std.proofs.lemmas.List.Elements.{filter_map-append}
 use Rattle.std.proofs.lemmas.List.Sorted.{sum_by-IsPermutation}
@@ -17,20 +17,18 @@ use Rattle.plot_geometry.specs.declared.radars.RadarSettings.{RadarSettings}
 use Rattle.plot_geometry.specs.Plots.{PlanePlot}
 use Rattle.plot_geometry.specs.PlanePlots.{plane_plot}
 use Rattle.plot_geometry.specs.PlotOrder.{plot_cmp, plot_cmp_total}
-use Rattle.late_window.specs.Folding.{Rises, InSlot}
+use Rattle.late_window.specs.Folding.{InSlot}
 use Rattle.admission_log.specs.declared.settings.Settings.{Settings}
 use Rattle.admission_log.specs.declared.events.Admitted.{Admitted}
 use Rattle.admission_log.specs.declared.events.Event.{Event}
 use Rattle.admission_log.specs.declared.events.Event.TheVariants as events
 use Rattle.admission_log.specs.declared.entries.Entry.{Entry}
 use Rattle.admission_log.specs.declared.entries.Entry.TheVariants.{Bias, Plot}
-use Rattle.admission_log.specs.Histories.{History, last_of, admitted_of, admitted_in}
+use Rattle.admission_log.specs.Histories.{History, last_of, admitted_in}
 use Rattle.admission_log.specs.Entries.{plot_entry, entries_in, entries_of, slot_in}
-use Rattle.admission_log.specs.EntryOrder.{entry_cmp}
 use Rattle.admission_log.specs.Biases.{radar_among}
 use Rattle.admission_log.specs.Plots.{plot_over, plots_over, plots_of}
 use Rattle.admission_log.proofs.Rising as rising
-use Rattle.tracker_fold.specs.Keys.{key_in}
 use Rattle.tracker_fold.specs.Steps.{plane, planes}
 use Rattle.tracker_fold.specs.Folds.{AreEntriesOf}
 use Rattle.tracker_fold.specs.PlaneOrder.{HasKey, keys_rise}
@@ -108,11 +106,11 @@ module _ (settings : Settings) (log : History) where
   plots_shown all o =
       let alike : rising.Alike (filter_map shown all) (plots_of settings log) = record {
         sums = λ f.
-          sums shown f all
-          ∙ sum_by-IsPermutation (given_sum shown f) (entries_of log) all o.same
-          ∙ sym (sums shown f (entries_of log))
-          ∙ ap (sum_by f) (of_events 0 log.events)
-          ∙ sym (sum_by-IsPermutation f (plots_over settings log) (plots_of settings log) (rising.all_move (plots_over settings log)));
+            sums shown f all
+            ∙ sum_by-IsPermutation (given_sum shown f) (entries_of log) all o.same
+            ∙ sym (sums shown f (entries_of log))
+            ∙ ap (sum_by f) (of_events 0 log.events)
+            ∙ sym (sum_by-IsPermutation f (plots_over settings log) (plots_of settings log) (rising.all_move (plots_over settings log)));
       } in
       one_order (filter_map shown all) (plots_of settings log) (rises _ (keys_rise shown own_key all o.rise)) (rising.all_rise (plots_over settings log)) alike
 

@@ -1,10 +1,9 @@
 -- Two lists in rising order with as many of each element are one list.
-use Rattle.std.proofs.Common.{◌≡◌, ◌∙◌, ap, sym, refl, ℕ, ◌+◌, Bool, true, false, cond, List, [], ◌∷◌, arith, subst}
+use Rattle.std.proofs.Common.{◌≡◌, ap, sym, refl, ℕ, ◌+◌, Bool, true, false, cond, List, [], ◌∷◌, arith}
 use Rattle.std.specs.Prelude.{sum_by}
 use Rattle.std.specs.Ordering.{is_lt, ordering_reverse}
 use Rattle.std.specs.declared.cmp.Ordering.{Ordering}
 use Rattle.std.specs.declared.cmp.Ordering.TheVariants.{Less, Equal, Greater}
-use Rattle.std.proofs.lemmas.Bool.{both_ways}
 use Rattle.std.proofs.lemmas.List.Sums.{sum_by-append}
 use Rattle.plot_geometry.specs.Plots.{PlanePlot}
 use Rattle.plot_geometry.specs.PlotOrder.{plot_cmp, plot_cmp_total, plot_cmp_exact}
@@ -45,6 +44,7 @@ first_not_below x y xs ys all alike = at (is_lt (plot_cmp x y)) refl
   where
     f : PlanePlot → ℕ
     f z = cond (is_lt (plot_cmp z y)) 1 0
+
     at : (b : Bool) → is_lt (plot_cmp x y) ≡ b → b ≡ false
     at true e = absurd (let one : f x ≡ 1 = ap (λ b. cond b 1 0) e in omega (arith, one_more f x xs, one, alike.sums f, none_below y (y ∷ ys) (not_below_itself y, all)))
     at false e = refl

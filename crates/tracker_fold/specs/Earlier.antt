@@ -1,5 +1,5 @@
 -- The step of a slot leaves tracks that are from before the next slot.
-use Rattle.std.proofs.Common.{◌≡◌, sym, ℕ, ◌+◌, ◌≤◌, ◌*◌, ◌<◌, List, arith, subst}
+use Rattle.std.proofs.Common.{◌≡◌, sym, ℕ, ◌+◌, ◌≤◌, List, arith, subst}
 use Rattle.std.specs.List.{AllByRecursion}
 use Rattle.std.specs.List.Sorted.{IsStrictlySortedBy}
 use Rattle.trk_base.specs.Keys.{key_cmp}

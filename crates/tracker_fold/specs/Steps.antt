@@ -1,5 +1,5 @@
 -- The tracker's step over the entries of a log: from the state before a slot, and the slot's entries, the state after it.
-use Rattle.std.specs.Prelude.{◌≡◌, ℕ, List, [], ◌∷◌, fold, filter_map, set, Option, Some, None, slice_get}
+use Rattle.std.specs.Prelude.{ℕ, List, fold, filter_map, set, Option, Some, None, slice_get}
 use Rattle.std.specs.Option.{option_map}
 use Rattle.std.specs.List.{AllByRecursion}
 use Rattle.plot_geometry.specs.declared.radars.RadarSettings.{RadarSettings}

@@ -90,11 +90,7 @@ struct Prepared {
 }
 
 impl Prepared {
-    fn of(
-        alloc: Global,
-        before: &[RadarSettings],
-        entries: &[Entry],
-    ) -> Result<Prepared, NoMemory>
+    fn of(alloc: Global, before: &[RadarSettings], entries: &[Entry]) -> Result<Prepared, NoMemory>
         requires rising { Rises entry_cmp key_in entries.now }
         requires of_slot { AreOfOneSlot entries.now }
         ensures radars { IfOk result (λ p. p.radars.items ≡ radars_after before.now entries.now) }

@@ -177,6 +177,9 @@ fn reopens<L: Ledger>(rt: &impl Abort, watched: &mut Watched<L>) -> Result<(), F
     watched.insert(rt, plot(4_608_020, 3))?;
     watched.settle(rt, 72_006)?;
     assert!(rt; watched.has_tracks(&[(Some(1), 3, 118_528), (None, 1, 118_528)]));
+    let (state, entries) = watched.window.span(72_006)?;
+    assert_eq!(rt; state.table.tracks().len(), 2);
+    assert!(rt; entries.is_empty());
     Ok(())
 }
 

@@ -1,4 +1,4 @@
-use Rattle.std.proofs.Common.{rules, ◌≡◌, ◌<◌, ◌+◌, ℕ, true, false, arith, inl, inr, subst, sym}
+use Rattle.std.proofs.Common.{rules, ◌≡◌, true, false, arith, inl, inr, subst, sym}
 use Rattle.std.specs.Prelude.{IsTrue}
 use Rattle.std.proofs.lemmas.Bool.{cases_eq}
 use Rattle.slot_step.specs.Calls.{GoesOn}

@@ -4,7 +4,7 @@ use Rattle.trk_base.specs.declared.keys.Key.{Key}
 use Rattle.track_life.specs.Tracks.{TrackState}
 use Rattle.slot_step.proofs.Components.{zip_length}
 use Rattle.slot_step.specs.Certificates.{IsAt}
-use Rattle.slot_step.proofs.PartEdges.{map_more}
+use Rattle.slot_step.proofs.ComponentEdges.{map_more}
 use Rattle.slot_step.proofs.Telling.{at_own}
 use Rattle.slot_step.proofs.certs.birth_arrivals.Goals as goal
 

@@ -13,7 +13,7 @@ use Rattle.slot_step.proofs.certs.cert_of.Goals as goal
 pub returns : goal.returns
 returns c =
     let ps = c.args.plots.now in
-    let part = c.args.part.now in
+    let part = c.args.component.now in
     let all : List Key = map (λ (t : TrackState). t.birth) c.args.tracks.now in
     let own : (qs : List PlanePlot) × AreAt ps part.plots qs = stands_all ps part.plots c.requires.plots in
     let births : (bs : List Key) × AreAt all part.tracks bs = stands_all all part.tracks (subst (λ n. All (λ i. i < n) part.tracks) (sym (length-map c.args.tracks.now (λ (t : TrackState). t.birth))) c.requires.tracks) in

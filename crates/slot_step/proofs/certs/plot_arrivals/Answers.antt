@@ -3,7 +3,7 @@ use Rattle.std.proofs.lemmas.List.{take_all}
 use Rattle.plot_geometry.specs.Plots.{PlanePlot}
 use Rattle.slot_step.proofs.Components.{zip_length}
 use Rattle.slot_step.specs.Certificates.{IsAt}
-use Rattle.slot_step.proofs.PartEdges.{map_more}
+use Rattle.slot_step.proofs.ComponentEdges.{map_more}
 use Rattle.slot_step.proofs.Telling.{at_own}
 use Rattle.slot_step.proofs.certs.plot_arrivals.Goals as goal
 

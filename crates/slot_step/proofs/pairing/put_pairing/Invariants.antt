@@ -7,6 +7,6 @@ use Rattle.slot_step.proofs.pairing.put_pairing.Given as goal
 abbrev pub invariant-loop-index : goal.invariant-loop-index
 invariant-loop-index l = record {
   count : length l.pairing ≡ length l.fn.pairing;
-  own : at_plots None l.pairing (take l.index l.part.plots) ≡ renumbered l.part.tracks (take l.index l.own);
-  others : (plot : ℕ) → (Contains l.part.plots plot → ⊥) → get_or l.pairing plot None ≡ get_or l.fn.pairing plot None;
+  own : at_plots None l.pairing (take l.index l.component.plots) ≡ renumbered l.component.tracks (take l.index l.own);
+  others : (plot : ℕ) → (Contains l.component.plots plot → ⊥) → get_or l.pairing plot None ≡ get_or l.fn.pairing plot None;
 }

@@ -8,7 +8,7 @@ use Rattle.slot_step.specs.Certificates.{IsAt}
 use Rattle.slot_step.specs.Batches.{batch_step}
 use Rattle.slot_step.specs.Slots.{unexpired}
 use Rattle.slot_step.specs.Told.{AreTold}
-use Rattle.slot_step.specs.ToldParts.{AreToldBehind}
+use Rattle.slot_step.specs.ToldComponents.{AreToldBehind}
 use Rattle.slot_step.specs.Tracker.{tracking, ordered}
 use Rattle.slot_step.specs.declared.certs.KeyedCert.{KeyedCert}
 use Rattle.slot_step.proofs.Components.{get_at}

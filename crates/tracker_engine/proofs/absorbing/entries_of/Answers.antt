@@ -1,5 +1,3 @@
-use Rattle.tracker_engine.proofs.Hearing.{all_noted}
-use Rattle.tracker_engine.proofs.Standing.{few_steps}
 use Rattle.std.proofs.Common.{◌≡◌, ◌∙◌, ap, sym, ◌++◌, ◌∷◌, [], ◌+◌, ◌≤◌, length, take, arith}
 use Rattle.std.proofs.lemmas.List.{take_more, length-take-le}
 use Rattle.admission_log.specs.Entries.{entries_in}

@@ -1,4 +1,4 @@
-use Rattle.std.proofs.Common.{◌≡◌, ◌∙◌, ◌++◌, ◌+◌, ◌≤◌, ap, sym, subst, length, arith}
+use Rattle.std.proofs.Common.{◌∙◌, ◌++◌, ◌+◌, ◌≤◌, ap, sym, subst, length, arith}
 use Rattle.std.specs.Prelude.{filter, fold, nat_lt}
 use Rattle.std.specs.List.{AllByRecursion, list_all}
 use Rattle.track_life.proofs.Lent.{came_back}
@@ -43,4 +43,4 @@ returns-clause-stands c settings log settled before s legal =
     let heard = ap (λ l. (c.note_all.new.last, l)) back ∙ c.note_all.ensures ∙ ap (λ l. fold noted (c.self.inside.last, l) c.args.events.now) c.deref_mut.ensures.value in
     absorbed settings log settled before _ own c.args.events.now legal c.note_all.new.last c.in_ok-count.count _ c.insert_all.new.self
     (subst (λ l. Keeps settings (l ++ entries_of log) c.insert_all.new.self) entries (c.in_ok-insert_all.ensures.stands (start settings) (entries_of log) own.entries))
-    (c.in_ok-insert_all.ensures.folded ∙ ap (λ l. filter (λ n. list_all (λ x. nat_lt n (slot_in x)) l) (folded c.self.inside.window)) entries) c.in_ok-insert_all.ensures.low heard c.in_ok-count.ensures.count
+    (c.in_ok-insert_all.ensures.folded ∙ ap (λ l. filter (λ n. list_all (λ x. nat_lt n (slot_in x)) l) (folded c.self.inside.window)) entries) c.in_ok-insert_all.ensures.low heard (c.in_ok-count.ensures.count ∙ ap (λ e. e.count + length c.args.events.now) (sym c.self.view_is))

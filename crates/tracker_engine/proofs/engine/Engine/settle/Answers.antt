@@ -1,8 +1,8 @@
-use Rattle.std.proofs.Common.{◌≡◌, ◌∙◌, ◌+◌, ◌*◌, ◌≤◌, ap, sym, subst, length, arith}
+use Rattle.std.proofs.Common.{◌∙◌, ◌+◌, ap, sym, subst, length, arith}
 use Rattle.std.specs.Prelude.{filter, nat_le}
 use Rattle.std.specs.Arc.{arc_value}
 use Rattle.late_window.specs.Folding.{below, slots}
-use Rattle.late_window.specs.Windows.{folded, dirty_slots}
+use Rattle.late_window.specs.Windows.{dirty_slots}
 use Rattle.admission_log.specs.Entries.{entries_of, slot_in}
 use Rattle.admission_log.specs.Histories.{low_at}
 use Rattle.tracker_fold.specs.Starts.{start}

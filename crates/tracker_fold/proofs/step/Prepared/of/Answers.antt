@@ -5,7 +5,7 @@ use Rattle.trk_base.specs.Keys.{key_cmp}
 use Rattle.plot_geometry.specs.Plots.{PlanePlot}
 use Rattle.slot_step.specs.Calls.{AreOfOneSlot}
 use Rattle.tracker_fold.specs.PlaneOrder.{planes_of_slot, planes_rise}
-use Rattle.tracker_fold.specs.Steps.{planes, radars_after}
+use Rattle.tracker_fold.specs.Steps.{planes}
 use Rattle.tracker_fold.proofs.step.Prepared.of.Goals as goal
 
 pub batches_of-requires-clause-rising : goal.batches_of-requires-clause-rising

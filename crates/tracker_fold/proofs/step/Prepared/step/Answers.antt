@@ -1,4 +1,4 @@
-use Rattle.std.proofs.Common.{◌≡◌, ◌∙◌, ap, sym}
+use Rattle.std.proofs.Common.{◌∙◌, ap, sym}
 use Rattle.slot_step.specs.Calls.{plots_of}
 use Rattle.slot_step.specs.Tracker.{step_tracks}
 use Rattle.tracker_fold.proofs.Moving.{no_batches, some_batches, stays, moves, none_certified, certified}

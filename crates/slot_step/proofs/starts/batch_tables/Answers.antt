@@ -1,0 +1,71 @@
+use Rattle.std.proofs.Common.{map, ◌++◌, ◌∷◌, [], ◌≡◌, ◌∙◌, ap, sym, List, subst}
+use Rattle.plot_geometry.specs.Plots.{PlanePlot}
+use Rattle.track_life.specs.Tracks.{TrackState}
+use Rattle.track_life.specs.Tables.{IsTable}
+use Rattle.slot_step.specs.OneBatch.{Batch}
+use Rattle.slot_step.specs.Calls.{AreNear, plots_of}
+use Rattle.slot_step.specs.Certificates.{IsAt}
+use Rattle.slot_step.specs.Batches.{batch_step}
+use Rattle.slot_step.specs.Slots.{unexpired, batch_table}
+use Rattle.slot_step.specs.ToldComponents.{AreToldBehind}
+use Rattle.slot_step.specs.Tracker.{tracking, ordered}
+use Rattle.slot_step.specs.declared.certs.KeyedCert.{KeyedCert}
+use Rattle.std.proofs.lemmas.List.{take_all}
+use Rattle.slot_step.proofs.ComponentEdges.{map_more}
+use Rattle.slot_step.proofs.Components.{get_at}
+use Rattle.slot_step.proofs.Running.{HasRun, expired, run_none, run_start, run_more, run_near, run_sorted, run_table}
+use Rattle.slot_step.proofs.starts.batch_tables.Goals as goal
+
+pub loop-batch-init : goal.loop-batch-init
+loop-batch-init c =
+    let life = c.args.life.now in
+    let n = c.args.slot in
+    let ts = c.args.table.now in
+    let is : unexpired (ordered life) n ts ≡ c.into_tracks-tracks.result.items = sym (c.into_tracks-tracks.ensures.value ∙ c.in_ok-expire.ensures ∙ expired life n ts) in
+    record {
+      ran = subst (λ (y : List TrackState × List KeyedCert). HasRun life n ts c.args.batches.now 0 y.0 y.1) (λ i. (is i, sym c.new-certs.ensures.items i)) (run_none life n ts c.args.batches.now c.requires.batches (subst IsTable (sym is) c.into_tracks-tracks.ensures.table));
+      tables = c.in_ok-tables.ensures.items;
+    }
+
+pub step_batch-requires-clause-few : goal.step_batch-requires-clause-few
+step_batch-requires-clause-few c = c.loop-batch.invariant.ran.few
+
+pub step_batch-requires-clause-tracks : goal.step_batch-requires-clause-tracks
+step_batch-requires-clause-tracks c =
+    run_sorted c.args.life.now c.args.slot c.args.table.now c.args.batches.now c.requires.batches c.requires.earlier c.loop-batch.batch-index c.loop-batch.tracks.items c.loop-batch.certs.items c.loop-batch.invariant.ran
+
+pub step_batch-requires-clause-near : goal.step_batch-requires-clause-near
+step_batch-requires-clause-near c =
+    let b : Batch = c.batch-item.result in
+    let at : IsAt c.args.batches.now c.loop-batch.batch-index b = subst (IsAt c.args.batches.now c.loop-batch.batch-index) (sym c.batch-item.is) (get_at b c.args.batches.now c.loop-batch.batch-index c.loop-batch-test.true) in
+    subst (AreNear c.loop-batch.tracks.items) (sym (c.as_slice.ensures ∙ ap (λ (d : Batch). d.plots) c.batch.view_is))
+    (run_near c.args.life.now c.args.slot c.args.table.now c.args.batches.now c.requires.batches c.requires.earlier c.loop-batch.batch-index c.loop-batch.tracks.items c.loop-batch.certs.items c.loop-batch.invariant.ran b at)
+
+pub of-requires : goal.of-requires
+of-requires c = subst IsTable (sym (c.in_ok-start.ensures ∙ c.deref.ensures.value))
+    (run_table c.args.life.now c.args.slot c.args.table.now c.args.batches.now c.requires.batches c.requires.earlier c.loop-batch.batch-index c.loop-batch.tracks.items c.loop-batch.certs.items c.loop-batch.invariant.ran)
+
+pub loop-batch-preserved : goal.loop-batch-preserved
+loop-batch-preserved c =
+    let life = c.args.life.now in
+    let n = c.args.slot in
+    let ts = c.args.table.now in
+    let bs = c.args.batches.now in
+    let i = c.loop-batch.batch-index in
+    let tracks = c.loop-batch.tracks.items in
+    let b : Batch = c.batch-item.result in
+    let at : IsAt bs i b = subst (IsAt bs i) (sym c.batch-item.is) (get_at b bs i c.loop-batch-test.true) in
+    let plots : c.as_slice.result.now ≡ b.plots = c.as_slice.ensures ∙ ap (λ (d : Batch). d.plots) c.batch.view_is in
+    let table : Batch → List TrackState = λ d. batch_table (tracking life) (ordered life) ts n (plots_of bs) d.radar in
+    let start : c.of.result ≡ table b = c.of.ensures ∙ c.in_ok-start.ensures ∙ c.deref.ensures.value ∙ run_start life n ts bs c.requires.batches i tracks c.loop-batch.certs.items c.loop-batch.invariant.ran b at in
+    record {
+      ran = run_more life n ts bs c.requires.batches i tracks c.loop-batch.certs.items c.loop-batch.invariant.ran b at c.step_batch.new.tracks.items c.step_batch.new.certs.items
+          (c.in_ok-step_batch.ensures.tracks ∙ ap (batch_step (tracking life) tracks) plots) c.in_ok-step_batch.ensures.few
+          (subst (λ (ps : List PlanePlot). AreToldBehind life tracks ps c.loop-batch.certs.items c.step_batch.new.certs.items) plots c.in_ok-step_batch.ensures.certs)
+          (c.in_ok-step_batch.ensures.whole c.loop-batch.invariant.ran.good);
+      tables = c.in_ok-push.ensures.items ∙ ap (λ (us : List TrackState). c.loop-batch.tables.items ++ us ∷ []) (start ∙ ap table c.batch-item.is)
+          ∙ map_more table bs i b c.loop-batch.tables.items [] c.loop-batch-test.true c.loop-batch.invariant.tables;
+    }
+
+pub returns : goal.returns
+returns c = c.loop-batch.invariant.tables ∙ ap (map (λ (d : Batch). batch_table (tracking c.args.life.now) (ordered c.args.life.now) c.args.table.now c.args.slot (plots_of c.args.batches.now) d.radar)) (take_all c.loop-batch.batch-index c.args.batches.now c.loop-batch-test.false)

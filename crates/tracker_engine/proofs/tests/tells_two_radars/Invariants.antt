@@ -1,0 +1,4 @@
+use Rattle.tracker_engine.proofs.tests.tells_two_radars.Given as goal
+
+abbrev pub ghosts-tells : goal.ghosts-tells
+ghosts-tells g a = record { name = a.blank.name; parts = a.blank.parts }
