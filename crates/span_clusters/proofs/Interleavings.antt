@@ -1,5 +1,5 @@
 -- Lists that are interleaved.
-use Rattle.std.proofs.Common.{◌≡◌, ◌∙◌, ap, sym, refl, ℕ, zero, suc, ◌+◌, List, [], ◌∷◌, length, map, Bool, true, false, cond, eqb, arith, subst, inl, inr}
+use Rattle.std.proofs.Common.{◌≡◌, ◌∙◌, ap, sym, refl, ℕ, zero, suc, ◌+◌, List, [], ◌∷◌, ◌++◌, length, map, Bool, true, false, cond, eqb, arith, subst, inl, inr}
 use Rattle.std.specs.Prelude.{◌⊎◌, Contains, filter}
 use Rattle.std.specs.List.{AllByRecursion}
 use Rattle.std.specs.declared.cmp.Ordering.{Ordering}
@@ -136,3 +136,11 @@ module _ {X : Type 0} where
   in_filter f y (x ∷ xs) c = cond_both (f x) (x ∷ filter f xs) (filter f xs) (λ l. Contains l y → Contains (x ∷ xs) y)
       (λ e d. elim (contains_cons x y (filter f xs) d) [ inl a ↦ contains_first x y xs a | inr b ↦ contains_later x y xs (in_filter f y xs b) ])
       (λ e d. contains_later x y xs (in_filter f y xs d)) c
+
+pub contains_left : {X : Type 0} (xs ys : List X) (x : X) → Contains xs x → Contains (xs ++ ys) x
+contains_left [] ys x c = absurd (omega (arith, c.1))
+contains_left (z ∷ xs) ys x c = elim (contains_cons z x xs c) [ inl e ↦ contains_first z x (xs ++ ys) e | inr d ↦ contains_later z x (xs ++ ys) (contains_left xs ys x d) ]
+
+pub contains_end : {X : Type 0} (xs : List X) (x y : X) → x ≡ y → Contains (xs ++ x ∷ []) y
+contains_end [] x y e = contains_first x y [] e
+contains_end (z ∷ xs) x y e = contains_later z y (xs ++ x ∷ []) (contains_end xs x y e)

@@ -1,12 +1,10 @@
 -- The run of a part, with a rest in each slot that only others fill.
 use Rattle.std.proofs.Common.{◌≡◌, ◌∙◌, ap, sym, refl, ℕ, zero, suc, ◌+◌, ◌<◌, ◌≤◌, List, [], ◌∷◌, length, eqb, arith, subst, inl, inr}
 use Rattle.std.specs.Prelude.{◌⊎◌}
-use Rattle.late_window.specs.Folding.{Rises, at_slot, stepped, before, after}
+use Rattle.late_window.specs.Folding.{Rises, at_slot, stepped, before}
 use Rattle.span_clusters.specs.Parts.{IsFilled}
-use Rattle.span_clusters.specs.Interleavings.{Interleaved}
-use Rattle.span_clusters.specs.Parts.{AreApart, Part, DontCross}
-use Rattle.span_clusters.proofs.Interleavings.{both_filter, swapped, both_length, at_in_slot, rises_filter, first_rises, keys_differ}
-use Rattle.span_clusters.proofs.Separating.{Separating, SeparatingLaws, TwoInSlot}
+use Rattle.span_clusters.proofs.Interleavings.{at_in_slot, rises_filter}
+use Rattle.span_clusters.proofs.Separating.{Separating, SeparatingLaws}
 
 pub empty_or : {I : Type 0} (xs : List I) → (xs ≡ []) ⊎ (0 < length xs)
 empty_or [] = inl refl

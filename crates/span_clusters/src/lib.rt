@@ -2,10 +2,15 @@
 //! runs merged slot by slot are the fold of the whole.
 #![tactic(auto)]
 
+mod crossing;
 mod jobs;
+mod joining;
 mod laws;
 mod separable;
+mod walking;
 
+pub use crossing::crossings;
 pub use jobs::{Done, Job};
+pub use joining::join_parts;
 pub use laws::{joined_parts, merged_parts, numbered_parts};
 pub use separable::Separable;

@@ -1,4 +1,4 @@
-use Rattle.span_clusters.proofs.Joining.{joined_splitting}
+use Rattle.span_clusters.proofs.Joins.{joined_splitting}
 use Rattle.span_clusters.proofs.Separating.{Separating, SeparatingLaws}
 use Rattle.span_clusters.proofs.laws.joined_parts.Goals as goal
 

@@ -1,4 +1,3 @@
-use Rattle.std.proofs.Common.{[]}
 use Rattle.span_clusters.proofs.Separating.{Separating, SeparatingLaws}
 use Rattle.span_clusters.proofs.Spans.{all_states, all_outs}
 use Rattle.span_clusters.proofs.laws.merged_parts.Goals as goal
