@@ -1,6 +1,8 @@
 // Which parts of a span cross.
 ghost use Rattle.std.specs.Prelude.{◌≡◌, ◌≢◌, ◌<◌, ◌≤◌, ◌↔◌, ◌⊎◌, ℕ, IfOk, IsTrue, Contains, min, max};
+ghost use Rattle.std.specs.List.Sorted.{IsSorted};
 ghost use Rattle.std.specs.List.{AllByRecursion};
+ghost use Rattle.std.specs.Ordering.{nat_cmp, ordering_then};
 ghost use Rattle.late_window.specs.Folding.{Rises, BeforeFirst, states};
 ghost use Rattle.span_clusters.specs.Interleavings.{EachPair};
 ghost use Rattle.span_clusters.specs.Parts.{ReachesItems, ReachesPart, Cross};
@@ -99,6 +101,7 @@ fn all_crossings<F: Separable>(alloc: Global, done: &[Done<F>]) -> Result<Vec<(u
 pub fn crossings<F: Separable>(alloc: Global, done: &[Done<F>]) -> Result<Vec<(u8, u8)>, NoMemory>
     requires parts { AreParts F.slot_of F.key_of F.is_before F.is_beside done.now }
     ensures exact { IfOk result (λ pairs. (a b : ℕ) → Contains pairs.items (a, b) ↔ CrossAs F.next F.slot_of F.gates done.now a b) }
+    ensures rising { IfOk result (λ pairs. IsSorted (λ p q. ordering_then (nat_cmp p.0 q.0) (nat_cmp p.1 q.1)) pairs.items) }
 {
     let mut pairs = all_crossings(alloc, done)?;
     pairs.sort()?;
