@@ -1,0 +1,12 @@
+pub mod Finding
+pub mod Firsts
+pub mod Interleavings
+pub mod Joins
+pub mod Merging
+pub mod Numbered
+pub mod OneSlot
+pub mod Reaching
+pub mod Resting
+pub mod Runs
+pub mod Separating
+pub mod Spans

@@ -1,0 +1,43 @@
+-- What jobs and dones keep, and what parting, crossing and joining answer.
+use Rattle.std.specs.Prelude.{◌≡◌, ◌≢◌, ◌⊎◌, ℕ, min, max, List, [], ◌∷◌}
+use Rattle.std.specs.List.{AllByRecursion}
+use Rattle.std.specs.declared.cmp.Ordering.{Ordering}
+use Rattle.late_window.specs.Folding.{Rises, BeforeFirst, states, AreOutsOf}
+use Rattle.span_clusters.specs.Interleavings.{KeysDiffer, EachPair}
+use Rattle.span_clusters.specs.Parts.{Part, Cross}
+
+-- the part may be run
+pub record MayRun {S I K : Type 0} (cmp : I → I → Ordering) (key : I → K) (slot : I → ℕ) (is_before : S → ℕ → Type 0) (start : S) (items : List I) : Type 0 where
+  pub rising : Rises cmp key items
+  pub before : BeforeFirst is_before slot start items
+
+-- these are the states and outs of the part's own run
+pub record HasRun {S I O : Type 0} (next : S → ℕ → List I → S) (slot : I → ℕ) (is_out : S → ℕ → List I → O → Type 0) (start : S) (items : List I) (run_states : List S) (outs : List O) : Type 0 where
+  pub folded : run_states ≡ states next slot start items
+  pub told : AreOutsOf next slot is_out start items outs
+
+-- no two parts have one number
+abbrev pub NumbersDiffer : {S I : Type 0} → List (Part S I) → Type 0
+NumbersDiffer parts = EachPair (λ p q. p.number ≢ q.number) parts
+
+-- each of two parts is before the slots of the other's items
+pub record AreBeforeBoth {S I : Type 0} (slot : I → ℕ) (is_before : S → ℕ → Type 0) (p q : Part S I) : Type 0 where
+  pub there : AllByRecursion (λ x. is_before p.start (slot x)) q.items
+  pub back : AllByRecursion (λ x. is_before q.start (slot x)) p.items
+
+-- parts that share no member and no item, and each of which is before the slots of all their items
+pub record AreParts {S I K : Type 0} (slot : I → ℕ) (key : I → K) (is_before : S → ℕ → Type 0) (is_beside : S → S → Type 0) (parts : List (Part S I)) : Type 0 where
+  pub numbers : NumbersDiffer parts
+  pub beside : EachPair (λ p q. is_beside p.start q.start) parts
+  pub keys : EachPair (λ p q. KeysDiffer key p.items q.items) parts
+  pub before : EachPair (AreBeforeBoth slot is_before) parts
+
+-- p crosses one of the others, and a and b are the numbers of both, the lower first
+abbrev pub CrossWith : {S I : Type 0} → (S → ℕ → List I → S) → (I → ℕ) → (S → ℕ → List I → I → Type 0) → Part S I → List (Part S I) → ℕ → ℕ → Type 0
+CrossWith next slot gates p [] a b = ⊥
+CrossWith next slot gates p (q ∷ others) a b = ((a ≡ min p.number q.number) × (b ≡ max p.number q.number) × Cross next slot gates p q) ⊎ CrossWith next slot gates p others a b
+
+-- two of the parts cross, and a and b are their numbers, the lower first
+abbrev pub CrossAs : {S I : Type 0} → (S → ℕ → List I → S) → (I → ℕ) → (S → ℕ → List I → I → Type 0) → List (Part S I) → ℕ → ℕ → Type 0
+CrossAs next slot gates [] a b = ⊥
+CrossAs next slot gates (p ∷ parts) a b = CrossWith next slot gates p parts a b ⊎ CrossAs next slot gates parts a b

@@ -1,0 +1,16 @@
+//! A span of slots in parts, each of which is folded by itself: where no two parts cross, their
+//! runs merged slot by slot are the fold of the whole.
+#![tactic(auto)]
+
+mod crossing;
+mod jobs;
+mod joining;
+mod laws;
+mod separable;
+mod walking;
+
+pub use crossing::crossings;
+pub use jobs::{Done, Job};
+pub use joining::join_parts;
+pub use laws::{joined_parts, merged_parts, numbered_parts};
+pub use separable::Separable;
