@@ -1,8 +1,8 @@
 -- A part's run beside the batches of another part: whether it gates one of their plots.
-use Rattle.std.proofs.Common.{◌≡◌, ◌∙◌, ap, sym, ℕ, ◌+◌, ◌<◌, ◌≤◌, List, [], length, Option, Some, IsSome, arith, subst, inl, inr}
+use Rattle.std.proofs.Common.{◌≡◌, ap, sym, ℕ, ◌+◌, ◌<◌, ◌≤◌, List, [], length, Some, arith, subst, inl, inr}
 use Rattle.std.specs.Prelude.{◌↔◌, Contains}
 use Rattle.std.specs.List.{AllByRecursion}
-use Rattle.std.proofs.lemmas.Bool.{cases_eq, cases_lt}
+use Rattle.std.proofs.lemmas.Bool.{cases_eq}
 use Rattle.std.proofs.lemmas.List.Elements.{Contains-get_or}
 use Rattle.assignment_dual.proofs.Choices.{is_some_of}
 use Rattle.plot_geometry.specs.Plots.{PlanePlot}
@@ -28,18 +28,22 @@ use Rattle.slot_step.proofs.Running.{HasRun, run_none, run_until, run_near_other
 use Rattle.slot_step.proofs.Slotted.{InSlot}
 
 -- there is a gate where the problem has an edge
-pub some_edge : (ts : List TrackState) (ps : List PlanePlot) (p : Problem) → IsProblemOf track_gate ts ps p → (0 < length p.edges) ↔ GateOne track_gate ts ps
-some_edge ts ps p h =
-    (λ lt.
+gate_of_edge : (ts : List TrackState) (ps : List PlanePlot) (p : Problem) → IsProblemOf track_gate ts ps p → 0 < length p.edges → GateOne track_gate ts ps
+gate_of_edge ts ps p h lt =
     let e : Edge = edge_at p.edges 0 in
     let g : IsGateBetween track_gate ts ps e.0 e.1 e.2 = (h.edges_are e.0 e.1 e.2).0 (Contains-get_or p.edges 0 (0, 0, 0) lt) in
-    record { track = g.track; plot = g.plot; known = at_contains ts e.1 g.track g.track_at; own = at_contains ps e.0 g.plot g.plot_at; gates = some_is (track_gate g.track g.plot) e.2 g.gate_is }),
-    (λ g.
+    record { track = g.track; plot = g.plot; known = at_contains ts e.1 g.track g.track_at; own = at_contains ps e.0 g.plot g.plot_at; gates = some_is (track_gate g.track g.plot) e.2 g.gate_is }
+
+edge_of_gate : (ts : List TrackState) (ps : List PlanePlot) (p : Problem) → IsProblemOf track_gate ts ps p → GateOne track_gate ts ps → 0 < length p.edges
+edge_of_gate ts ps p h g =
     let i : (i : ℕ) × IsAt ps i g.plot = at_from ps g.plot g.own in
     let j : (j : ℕ) × IsAt ts j g.track = at_from ts g.track g.known in
     let s : (c : ℕ) × (track_gate g.track g.plot ≡ Some c) = is_some_of (track_gate g.track g.plot) g.gates in
     let d : Contains p.edges (i.0, j.0, s.0) = (h.edges_are i.0 j.0 s.0).1 (record { plot = g.plot; track = g.track; plot_at = i.1; track_at = j.1; gate_is = s.1 }) in
-    omega (arith, d.1))
+    omega (arith, d.1)
+
+pub some_edge : (ts : List TrackState) (ps : List PlanePlot) (p : Problem) → IsProblemOf track_gate ts ps p → (0 < length p.edges) ↔ GateOne track_gate ts ps
+some_edge ts ps p h = (gate_of_edge ts ps p h, edge_of_gate ts ps p h)
 
 -- a plot of the batch is gated at its start
 abbrev pub IsReached : LifeSettings → ℕ → List TrackState → List Batch → Batch → Type 0
@@ -57,10 +61,10 @@ module _ (life : LifeSettings) (n : ℕ) (ts : List TrackState) (bs others : Lis
 
   pub reached : (i : ℕ) (b : Batch) → IsAt others i b → IsReached life n ts bs b → Reaches (tracking life) (ordered life) n ts (plots_of bs) (plots_of others)
   reached i b a g =
-      (g.plot, plots_have others i b g.plot a g.own, g.track, subst (λ r. Contains (batch_table (tracking life) (ordered life) ts n (plots_of bs) r) g.track) (sym (radar_of_batch i b g.plot a g.own)) g.known, g.gates)
+      (g.plot, plots_have others i b g.plot a g.own, (g.track, subst (λ r. Contains (batch_table (tracking life) (ordered life) ts n (plots_of bs) r) g.track) (sym (radar_of_batch i b g.plot a g.own)) g.known, g.gates))
 
   pub not_reached : (i k : ℕ) (tracks : List TrackState) (certs : List KeyedCert) → HasLooked life n ts bs others i k tracks certs → length others ≤ i → Reaches (tracking life) (ordered life) n ts (plots_of bs) (plots_of others) → ⊥
-  not_reached i k tracks certs g le (p, c, t, known, gates) =
+  not_reached i k tracks certs g le (p, c, (t, known, gates)) =
       let v : (b : Batch) × Contains others b × Contains b.plots p = in_plots others p c in
       let m : (j : ℕ) × IsAt others j v.0 = at_from others v.0 v.1 in
       g.unreached m.0 v.0 m.1 (omega (arith, le, within others m.0 v.0 m.1))

@@ -1,7 +1,7 @@
 -- Tracks that no plot of a batch is of have no edge, and may be passed over.
-use Rattle.std.proofs.Common.{◌≡◌, ◌∙◌, ap, sym, refl, ℕ, zero, suc, ◌+◌, ◌<◌, Bool, true, false, cond, List, [], ◌∷◌, ◌++◌, map, drop, append_assoc, Option, Some, None, arith, subst, inl, inr}
+use Rattle.std.proofs.Common.{◌≡◌, ◌∙◌, ap, sym, refl, ℕ, zero, suc, ◌+◌, Bool, true, false, cond, List, [], ◌∷◌, ◌++◌, map, drop, append_assoc, Option, Some, None, arith, subst, inl, inr}
 use Rattle.std.specs.Prelude.{not, ◌||◌, flat_map, Contains, All}
-use Rattle.std.specs.List.{filter, list_any, enumerate_from}
+use Rattle.std.specs.List.{filter, enumerate_from}
 use Rattle.std.proofs.lemmas.List.Elements.{All-map}
 use Rattle.plot_geometry.specs.Plots.{PlanePlot}
 use Rattle.fixed_imm.specs.Aims.{AimState}
@@ -99,7 +99,7 @@ module _ {T P : Type 0} (gate : T → P → Option ℕ) (i : ℕ) (p : P) (cs : 
 
 enumerated : {X : Type 0} (Q : X → Type 0) (n : ℕ) (xs : List X) → ((x : X) → Contains xs x → Q x) → (c : ℕ × X) → Contains (enumerate_from n xs) c → Q c.1
 enumerated Q n [] f c k = contains_none c k
-enumerated Q n (x ∷ xs) f c k = elim (contains_cons (n, x) c (enumerate_from (n + 1) xs) k) [
+enumerated {X = X} Q n (x ∷ xs) f c k = elim (contains_cons (n, x) c (enumerate_from (n + 1) xs) k) [
   | inl e ↦ subst (λ (d : ℕ × X). Q d.1) e (f x (contains_first x x xs refl))
   | inr d ↦ enumerated Q (n + 1) xs (λ y m. f y (contains_later x y xs m)) c d
 ]

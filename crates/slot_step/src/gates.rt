@@ -20,9 +20,7 @@ use trk_base::{NoMemory, Sequence};
 fn may_gate(track: &Track, plots: &[PlanePlot]) -> bool
     ensures { result ≡ may_gate plots.now track.now }
 {
-    plots
-        .iter()
-        .any(|plot| !is_another(track.aim.address, track.aim.code, plot))
+    plots.iter().any(|plot| !is_another(track.aim.address, track.aim.code, plot))
 }
 
 // The tracks that may gate some plot of the batch, by their indices, with what the gates read of
