@@ -420,7 +420,7 @@ const CALLS: [(Call, Answer); 8] = [
 ];
 
 // What a log answers to a call.
-fn answer(log: &mut Log, settings: &Settings, call: Call) -> Answer {
+fn answer_of(log: &mut Log, settings: &Settings, call: Call) -> Answer {
     match call {
         Call::Report(tod) => match log.admit(settings, 0, &report(1, tod)) {
             Ok(receipt) => Answer::At(receipt.at),
@@ -469,7 +469,7 @@ fn bias(log: &mut Log, settings: &Settings, radar: u8, slot: u64, range: i16) ->
 // Whether each call has its answer.
 fn have_answers(log: &mut Log, settings: &Settings, rows: &[(Call, Answer)]) -> bool {
     for (call, want) in rows {
-        if answer(log, settings, *call) != *want {
+        if answer_of(log, settings, *call) != *want {
             return false;
         }
     }
@@ -553,7 +553,7 @@ fn goes_along(
     let mut summary = LogSummary::new(START);
     let mut events = Vec::new(alloc);
     for (call, _) in rows {
-        let _ = answer(log, settings, *call);
+        let _ = answer_of(log, settings, *call);
         if let Some(event) = event_of(alloc, &mut summary, settings, *call) {
             events.push(event)?;
         }
@@ -626,7 +626,7 @@ fn lies_to_the_north(
 ) -> Result<bool, NoMemory> {
     let mut log = Log::new(alloc, START);
     for call in calls {
-        let _ = answer(&mut log, settings, *call);
+        let _ = answer_of(&mut log, settings, *call);
     }
     let open = norths(alloc, settings, &log)?;
     let _ = tick(&mut log, 4_608_128);
