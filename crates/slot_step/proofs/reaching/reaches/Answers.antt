@@ -1,4 +1,4 @@
-use Rattle.std.proofs.Common.{rules, ◌≡◌, ◌∙◌, ◌<◌, ◌≤◌, ap, sym, refl, ℕ, List, length, arith, subst, inl, inr, true}
+use Rattle.std.proofs.Common.{rules, ◌≡◌, ◌∙◌, ◌<◌, ◌≤◌, ap, sym, refl, ℕ, List, length, arith, subst, inl, inr}
 use Rattle.std.proofs.lemmas.Bool.{cases_lt}
 use Rattle.plot_geometry.specs.Plots.{PlanePlot}
 use Rattle.track_life.specs.Tracks.{TrackState}
