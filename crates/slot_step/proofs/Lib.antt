@@ -27,3 +27,4 @@ pub mod Cutting
 pub mod Counted
 pub mod Skipping
 pub mod Looking
+pub mod Marking

@@ -1,12 +1,24 @@
 -- The tracks that may gate a plot of a batch, by what tracks and plots call themselves, and their edges.
-use Rattle.std.specs.Prelude.{ℕ, List, Option, Bool, not, flat_map}
+use Rattle.std.specs.Prelude.{◌≡◌, ◌≢◌, ◌%◌, ℕ, List, get_or, length, Option, Some, Bool, false, not, flat_map}
 use Rattle.std.specs.List.{filter, list_any, enumerate_from}
 use Rattle.plot_geometry.specs.Plots.{PlanePlot}
 use Rattle.fixed_imm.specs.Aims.{AimState, mixed_aim}
 use Rattle.gating.specs.Gating.{is_another}
 use Rattle.assignment_dual.specs.Problems.{Edge}
 use Rattle.track_life.specs.Tracks.{TrackState}
+use Rattle.slot_step.specs.Certificates.{IsAt}
 use Rattle.slot_step.specs.Gates.{gate_edge}
+
+-- the plot has an address, which is another one
+pub record HasOther (address : ℕ) (p : PlanePlot) : Type 0 where
+  pub own : ℕ
+  pub told : p.address ≡ Some own
+  pub other : own ≢ address
+
+-- a place for each remainder of an address; where that of an address isn't marked, all plots have others
+pub record AreMarked (ps : List PlanePlot) (marks : List Bool) : Type 0 where
+  pub count : length marks ≡ 4096
+  pub others : (address : ℕ) → get_or marks (address % 4096) false ≡ false → (i : ℕ) (p : PlanePlot) → IsAt ps i p → HasOther address p
 
 -- some of these plots is not of another aircraft
 abbrev pub may_gate : List PlanePlot → TrackState → Bool

@@ -4,7 +4,7 @@ ghost use Rattle.fixed_imm.specs.Bounds.{IsTimeStep, time_step};
 ghost use Rattle.track_life.specs.Tracks.{TrackState};
 ghost use Rattle.slot_step.specs.Calls.{AreNear};
 ghost use Rattle.slot_step.specs.Gates.{batch_edges};
-ghost use Rattle.slot_step.specs.Candidates.{may_gate, candidates, mixed_candidate, candidate_edges};
+ghost use Rattle.slot_step.specs.Candidates.{AreMarked, may_gate, candidates, mixed_candidate, candidate_edges};
 ghost use Rattle.slot_step.specs.Problems.{IsProblemOf};
 ghost use Rattle.slot_step.specs.Tracker.{track_gate};
 
@@ -16,10 +16,34 @@ use std::alloc::Global;
 use track_life::Track;
 use trk_base::{NoMemory, Sequence};
 
+// How many places the marks of addresses have. Addresses with one remainder share a place.
+const PLACES: u32 = 4_096;
+
+// Marks the place of each plot's address, so that a track of another aircraft is passed over without
+// a look at each plot. Where a plot has no address, all places are marked.
+fn address_marks(alloc: Global, plots: &[PlanePlot]) -> Result<Vec<bool>, NoMemory>
+    ensures { IfOk result (λ marks. AreMarked plots.now marks.items) }
+{
+    let mut marks = vec![in alloc; false; PLACES as usize]?;
+    for plot in plots {
+        match plot.address {
+            Some(address) => marks[(address % PLACES) as usize] = true,
+            None => return Ok(vec![in alloc; true; PLACES as usize]?),
+        }
+    }
+    Ok(marks)
+}
+
 // Whether some plot of the batch may be of the track's aircraft, by what the two call themselves.
-fn may_gate(track: &Track, plots: &[PlanePlot]) -> bool
+fn may_gate(track: &Track, plots: &[PlanePlot], marks: &[bool]) -> bool
+    requires { AreMarked plots.now marks.now }
     ensures { result ≡ may_gate plots.now track.now }
 {
+    if let Some(address) = track.aim.address {
+        if !marks[(address % PLACES) as usize] {
+            return false;
+        }
+    }
     plots.iter().any(|plot| !is_another(track.aim.address, track.aim.code, plot))
 }
 
@@ -33,9 +57,10 @@ fn candidates(
     requires { length tracks.now < 2 ^ 32 }
     ensures { IfOk result (λ found. found.items ≡ map mixed_candidate (candidates plots.now tracks.now)) }
 {
+    let marks = address_marks(alloc, plots)?;
     let mut found = Vec::new(alloc);
     for (index, track) in tracks.iter().enumerate() {
-        if may_gate(track, plots) {
+        if may_gate(track, plots, &marks) {
             found.push((index as u32, track.aim.mixed()))?;
         }
     }
