@@ -1,6 +1,6 @@
 -- The next edition of a log, at a tick that was just taken.
 use Rattle.std.proofs.Common.{◌≡◌, ◌≤◌, ◌<◌, ◌∙◌, ap, sym, refl, subst, arith, ℕ, ◌+◌, ◌-◌, List, [], ◌∷◌, length, drop, take, Bool, true, false}
-use Rattle.std.specs.Prelude.{Option, Some, None, fold, if◌then◌else◌, ◌==◌}
+use Rattle.std.specs.Prelude.{Option, Some, None, Result, Ok, Err, All, IfOk, fold, if◌then◌else◌, ◌==◌}
 use Rattle.std.proofs.lemmas.Bool.{ne_eqb}
 use Rattle.std.proofs.lemmas.List.{length_push, length-drop, take_all, take-append-drop, take-append-le}
 use Rattle.admission_log.specs.declared.settings.Settings.{Settings}
@@ -9,7 +9,7 @@ use Rattle.admission_log.specs.declared.events.Event.TheVariants.{Tick}
 use Rattle.admission_log.specs.Histories.{History, appended, first, tick_in}
 use Rattle.admission_log.specs.Legality.{IsLegal}
 use Rattle.edition_form.specs.declared.edition.Edition.{Edition}
-use Rattle.edition_form.specs.declared.lines.ShownLine.{ShownLine}
+use Rattle.price_form.specs.Certificates.{IsCert}
 use Rattle.edition_form.specs.Certificates.{AreLogCertificates}
 use Rattle.edition_form.specs.Datagrams.{AreDatagramsOf, shown_at, shown_of}
 use Rattle.edition_form.specs.Editions.{IsEdition}
@@ -18,7 +18,9 @@ use Rattle.std.specs.List.{concat}
 use Rattle.tracker_engine.specs.Engines.{Continues, EngineState, StandsFor}
 use Rattle.tracker_engine.specs.Engines as engines
 use Rattle.tracker_session.specs.declared.editions.Editions.{Editions}
-use Rattle.tracker_session.specs.Editions.{AreGiven, HasNext}
+use Rattle.trk_base.specs.declared.memory.NoMemory.{NoMemory}
+use Rattle.tracker_session.specs.declared.editions.EditionOctets.{EditionOctets}
+use Rattle.tracker_session.specs.Editions.{AreGiven, AreNewest, HasNext, IsNewest}
 use Rattle.recording.specs.Items.{Item, datagram, tick, bias}
 use Rattle.tracker_session.specs.Taking.{shows}
 use Rattle.tracker_session.proofs.Logs.{delivery_kinds}
@@ -83,20 +85,10 @@ module _ (settings : Settings) (log : History) (editions : Editions) (h : HasNex
   pub cut_is : last_cut log ≡ length log.events
   cut_is = ap last_cut h.parts ∙ last_tick h.earlier h.time ∙ ap (λ (l : History). length l.events) (sym h.parts)
 
-  pub output_is : (number : ℕ) (edition : Edition) (octets : List ℕ) → number ≡ editions.number + 1 → IsEdition settings log editions.cut number edition → octets ≡ concat edition.datagrams → IsEditionAt settings log (newest log) octets
-  output_is number edition octets n is whole = record {
-    datagrams = edition.datagrams;
-    are = subst (λ (l : History). AreDatagramsOf settings l (cut_before log (length log.events)) (length (cuts_of log)) edition.datagrams) (sym (first_all log))
-        (subst (λ (before : ℕ). AreDatagramsOf settings log before (length (cuts_of log)) edition.datagrams) (sym before_is)
-        (subst (λ (m : ℕ). AreDatagramsOf settings log editions.cut m edition.datagrams) (n ∙ sym number_is) is.datagrams));
+  pub newest_is : (number : ℕ) (edition : Edition) → number ≡ editions.number + 1 → IsEdition settings log editions.cut number edition → All IsCert edition.certs → IsNewest settings log edition
+  newest_is number edition n is whole = record {
+    is = subst (λ (before : ℕ). IsEdition settings log before (length (cuts_of log)) edition) (sym before_is) (subst (λ (m : ℕ). IsEdition settings log editions.cut m edition) (n ∙ sym number_is) is);
     whole = whole;
-  }
-
-  pub prices_are : (number : ℕ) (edition : Edition) (octets : List ℕ) → number ≡ editions.number + 1 → IsEdition settings log editions.cut number edition → octets ≡ edition_octets edition.number edition.cut edition.certs → ArePricesOf settings log (newest log) octets
-  prices_are number edition octets n is whole = record {
-    certs = edition.certs;
-    certificates = subst (λ (l : History). AreLogCertificates settings l edition.certs) (sym (first_all log)) is.certs;
-    octets_are = whole ∙ (λ i. edition_octets ((is.number_is ∙ n ∙ sym number_is) i) (is.cut i) edition.certs);
   }
 
   -- ---- shown
@@ -108,12 +100,40 @@ module _ (settings : Settings) (log : History) (editions : Editions) (h : HasNex
   pub shown_here : shown_of settings log ≡ shown_at settings log (length log.events)
   shown_here = ap (shown_of settings) (sym (first_all log)) ∙ sym (if_else (length log.events == 0) [] (shown_of settings (first (length log.events) log)) (ne_eqb (length log.events) 0 (λ none. omega (arith, number_of_events, none))))
 
-  pub given_next : (new : Editions) → new.number ≡ editions.number + 1 → new.cut ≡ length log.events → StandsFor settings log (length log.events) (length log.events) new.engine → AreGiven settings log new
-  given_next new number cut stands = record {
+  pub given_next : (new : Editions) → new.number ≡ editions.number + 1 → new.cut ≡ length log.events → new.tracks ≡ length (shown_of settings log) → StandsFor settings log (length log.events) (length log.events) new.engine → AreGiven settings log new
+  given_next new number cut tracks stands = record {
     number_is = number ∙ sym number_is;
     cut_is = cut ∙ sym cut_is;
+    tracks_are = tracks ∙ ap length (shown_here ∙ ap (shown_at settings log) (sym cut_is));
     stands = subst (λ (n : ℕ). StandsFor settings (first n log) n n new.engine) (sym cut) (subst (λ (l : History). StandsFor settings l (length log.events) (length log.events) new.engine) (sym (first_all log)) stands);
   }
+
+-- ---- the octets of an edition
+
+pub newest_output : (settings : Settings) (log : History) (edition : Edition) (octets : List ℕ) → IsNewest settings log edition → octets ≡ concat edition.datagrams → IsEditionAt settings log (newest log) octets
+newest_output settings log edition octets h whole = record {
+  datagrams = edition.datagrams;
+  are = subst (λ (l : History). AreDatagramsOf settings l (cut_before log (length log.events)) (length (cuts_of log)) edition.datagrams) (sym (first_all log)) h.is.datagrams;
+  whole = whole;
+}
+
+newest_prices : (settings : Settings) (log : History) (edition : Edition) (octets : List ℕ) → IsNewest settings log edition → octets ≡ edition_octets edition.number edition.cut edition.certs → ArePricesOf settings log (newest log) octets
+newest_prices settings log edition octets h whole = record {
+  certs = edition.certs;
+  certificates = subst (λ (l : History). AreLogCertificates settings l edition.certs) (sym (first_all log)) h.is.certs;
+  octets_are = whole ∙ (λ i. edition_octets (h.is.number_is i) (h.is.cut i) edition.certs);
+}
+
+newest_octets : (settings : Settings) (log : History) (edition : Edition) (octets : EditionOctets) → IsNewest settings log edition → octets.output.items ≡ concat edition.datagrams → octets.prices.items ≡ edition_octets edition.number edition.cut edition.certs → AreNewest settings log octets
+newest_octets settings log edition octets h output prices = record {
+  output = newest_output settings log edition octets.output.items h output;
+  prices = newest_prices settings log edition octets.prices.items h prices;
+}
+
+-- .. where memory isn't wanting
+pub newest_told : (settings : Settings) (log : History) (edition : Edition) (told : Result EditionOctets NoMemory) → IsNewest settings log edition → IfOk told (λ o. o.output.items ≡ concat edition.datagrams) → IfOk told (λ o. o.prices.items ≡ edition_octets edition.number edition.cut edition.certs) → IfOk told (AreNewest settings log)
+newest_told settings log edition (Ok octets) h output prices = newest_octets settings log edition octets h output prices
+newest_told settings log edition (Err e) h output prices = tt
 
 -- a log without events is legal
 pub empty_legal : (settings : Settings) (start : ℕ) (editions : Editions) → AreGiven settings (empty_log start) editions → IsLegal settings (empty_log start)
@@ -121,13 +141,19 @@ empty_legal settings start editions given = subst (λ (n : ℕ). IsLegal setting
 
 -- ---- a log without ticks at its end
 
+-- up to a cut a log with one more event shows the same
+shown_kept : (settings : Settings) (log : History) (event : Event) (cut : ℕ) → cut ≤ length log.events → shown_at settings log cut ≡ shown_at settings (appended log event) cut
+shown_kept settings log event cut within = ap (λ (l : History). if cut == 0 then [] else shown_of settings l) (first_kept log event cut within)
+
 -- any other event leaves what was given as it is
 pub given_still : (settings : Settings) (log : History) (event : Event) (editions : Editions) → tick_in event ≡ None → AreGiven settings log editions → AreGiven settings (appended log event) editions
 given_still settings log event editions none h =
     let cuts = cuts_still log event none in
+    let last : last_cut log ≡ last_cut (appended log event) = ap (λ cs. fold (λ before cut. cut) 0 cs) (sym cuts) in
     record {
       number_is = h.number_is ∙ ap length (sym cuts);
-      cut_is = h.cut_is ∙ ap (λ cs. fold (λ before cut. cut) 0 cs) (sym cuts);
+      cut_is = h.cut_is ∙ last;
+      tracks_are = h.tracks_are ∙ ap length (shown_kept settings log event (last_cut log) (omega (arith, last_within log)) ∙ ap (shown_at settings (appended log event)) last);
       stands = subst (λ (l : History). StandsFor settings l editions.cut editions.cut editions.engine) (first_kept log event editions.cut (omega (arith, h.cut_is, last_within log))) h.stands;
     }
 

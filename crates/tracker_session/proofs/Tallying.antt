@@ -23,7 +23,7 @@ use Rattle.tracker_session.specs.Replay.{HasFault, IsReplayLog}
 use Rattle.tracker_session.specs.Taking.{HasTaken, Takes}
 use Rattle.tracker_session.proofs.Logs.{DeliveryKinds, Kinds, bit, covered, delivery_kinds}
 
-counted_more : (a b : ℕ) → counted (counted a + b) ≡ counted (a + b)
+pub counted_more : (a b : ℕ) → counted (counted a + b) ≡ counted (a + b)
 counted_more a b = omega arith
 
 raised_is : (n a : ℕ) → raised (counted n) a ≡ counted (n + a)

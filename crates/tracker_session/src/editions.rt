@@ -4,11 +4,11 @@ ghost use Rattle.std.specs.Arc.{arc_value};
 ghost use Rattle.std.specs.List.{concat};
 ghost use Rattle.edition_form.specs.Prices.{edition_octets};
 ghost use Rattle.price_form.specs.Certificates.{IsCert};
-ghost use Rattle.tracker_session.specs.Editions.{AreGiven, AreNewest, HasNext};
+ghost use Rattle.tracker_session.specs.Editions.{AreGiven, AreNewest, HasNext, IsNewest};
 ghost use Rattle.tracker_session.specs.Replay.{empty_log};
 
 use admission_log::{Log, Settings};
-use edition_form::Edition;
+use edition_form::{Built, Edition};
 use price_form::{Cert, write_cert, write_edition};
 use std::alloc::Global;
 use std::sync::Arc;
@@ -26,7 +26,7 @@ pub struct EditionOctets {
 }
 
 /// What gives the editions of a log one after the other: the tracks at the last one, and how many
-/// events that one showed.
+/// events and tracks that one showed.
 #[derive(Drop)]
 pub struct Editions {
     pub engine: Engine,
@@ -34,6 +34,8 @@ pub struct Editions {
     pub number: u64,
     /// How many events the last one showed.
     pub cut: usize,
+    /// How many tracks the last one showed, without those that it told as ended.
+    pub tracks: usize,
 }
 
 impl Editions {
@@ -47,10 +49,11 @@ impl Editions {
             engine,
             number: 0,
             cut: 0,
+            tracks: 0,
         })
     }
 
-    /// The edition of the log at the tick that was just taken.
+    /// The octets of the edition of the log at the tick that was just taken.
     ///
     /// Where memory is wanting, no more editions can be given.
     pub fn next<L: Ledger>(
@@ -63,16 +66,32 @@ impl Editions {
         ensures newest { IfOk result (AreNewest self.old.engine.settings log.now) }
         ensures given { OnOk result (AreGiven self.old.engine.settings log.now self.new) }
     {
+        let edition = self.advance(log, steps)?;
+        octets_of(alloc, &edition)
+    }
+
+    /// The edition of the log at the tick that was just taken.
+    ///
+    /// Where memory is wanting, no more editions can be given.
+    pub fn advance<L: Ledger>(
+        &mut self,
+        log: &Log,
+        steps: &mut Steps<L>,
+    ) -> Result<Edition, NoMemory>
+        requires { HasNext self.old.engine.settings log.now self.old }
+        ensures newest { IfOk result (IsNewest self.old.engine.settings log.now) }
+        ensures given { OnOk result (AreGiven self.old.engine.settings log.now self.new) }
+    {
         let events = log.events();
         self.engine.absorb(&events[self.cut..])?;
         self.engine.settle(steps)?;
         let number = self.number.checked_add(1).ok_or(NoMemory)?;
-        let built = self.engine.edition(number)?;
-        let octets = octets_of(alloc, &built.edition)?;
-        self.engine.show(built.edition.cut, built.shown.into_vec());
+        let Built { edition, shown } = self.engine.edition(number)?;
+        self.tracks = shown.len();
+        self.engine.show(edition.cut, shown.into_vec());
         self.number = number;
         self.cut = events.len();
-        Ok(octets)
+        Ok(edition)
     }
 }
 
