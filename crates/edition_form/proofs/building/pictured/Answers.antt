@@ -2,7 +2,7 @@ use Rattle.std.proofs.Common.{◌∙◌, sym, subst}
 use Rattle.trk_base.specs.Numbers.{slot_of}
 use Rattle.edition_form.specs.Telling.{Climb}
 use Rattle.edition_form.proofs.Climbing.{dont_fall, rises, shown_climb}
-use Rattle.edition_form.proofs.building.build.Goals as goal
+use Rattle.edition_form.proofs.building.pictured.Goals as goal
 
 pub datagrams-requires-clause-old : goal.datagrams-requires-clause-old
 datagrams-requires-clause-old c = dont_fall c.args.old.now c.requires.old
@@ -13,4 +13,4 @@ datagrams-requires-clause-now c =
 
 pub returns-clause-rising : goal.returns-clause-rising
 returns-clause-rising c =
-    rises c.of-2.result (subst Climb (sym (c.of-2.ensures ∙ c.in_ok-shown.ensures)) (shown_climb c.args.settings.now.life c.args.time (slot_of c.args.time) c.args.table.now c.requires.numbers))
+    rises c.of.result (subst Climb (sym (c.of.ensures ∙ c.in_ok-shown.ensures)) (shown_climb c.args.settings.now.life c.args.time (slot_of c.args.time) c.args.table.now c.requires.numbers))
