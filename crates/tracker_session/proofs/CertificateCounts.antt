@@ -3,7 +3,7 @@
 use Rattle.std.proofs.Common.{◌≡◌, ◌∙◌, ap, sym, refl, subst, inl, inr, arith, ℕ, ◌+◌, List, [], ◌∷◌, ◌++◌, length, map, length-append, suc, cond, Bool, true, false}
 use Rattle.std.specs.Prelude.{Contains, Option, filter, ◌==◌}
 use Rattle.std.specs.Cmp.{IsTotalOrder}
-use Rattle.std.specs.List.{AllByRecursion, AllZip, concat, flat_map}
+use Rattle.std.specs.List.{AllByRecursion, AllZip, flat_map}
 use Rattle.std.specs.List.Sorted.{IsStrictlySortedBy}
 use Rattle.std.specs.Ordering.{ordering_reverse}
 use Rattle.std.specs.declared.cmp.Ordering.{Ordering}
@@ -30,7 +30,7 @@ use Rattle.track_life.specs.declared.settings.LifeSettings.{LifeSettings}
 use Rattle.track_life.specs.Tracks.{TrackState}
 use Rattle.trk_base.specs.declared.keys.Key.{Key}
 use Rattle.tracker_session.specs.Replay as replay
-use Rattle.tracker_session.specs.Replay.{AreCertificatesAt, editions_of}
+use Rattle.tracker_session.specs.Replay.{AreCertificatesAt, editions_of, end_to_end}
 
 -- ---- rising lists with the same members
 
@@ -200,14 +200,14 @@ log_count : (settings : Settings) (log : History) (cs ds : List Cert) → AreLog
 log_count settings log cs ds h g =
     ap length h.all ∙ outs_count settings.life (plots_of settings log) (open_slots (low_at settings.window (last_of log)) (plots_of settings log)) h.by_slot g.by_slot h.each g.each ∙ sym (ap length g.all)
 
-zip_count : (settings : Settings) (log : History) (editions : List (ℕ × ℕ)) (cs ds : List (List Cert)) → AllZip (AreCertificatesAt settings log) editions cs → AllZip (AreCertificatesAt settings log) editions ds → length (concat cs) ≡ length (concat ds)
+zip_count : (settings : Settings) (log : History) (editions : List (ℕ × ℕ)) (cs ds : List (List Cert)) → AllZip (AreCertificatesAt settings log) editions cs → AllZip (AreCertificatesAt settings log) editions ds → length (end_to_end cs) ≡ length (end_to_end ds)
 zip_count settings log [] [] [] h g = refl
 zip_count settings log [] [] (d ∷ ds) h g = absurd g
 zip_count settings log [] (c ∷ cs) ds h g = absurd h
 zip_count settings log (edition ∷ editions) [] ds h g = absurd h
 zip_count settings log (edition ∷ editions) (c ∷ cs) [] h g = absurd g
 zip_count settings log (edition ∷ editions) (c ∷ cs) (d ∷ ds) h g =
-    omega (arith, length-append c (concat cs), length-append d (concat ds), log_count settings (first edition.1 log) c d h.0 g.0, zip_count settings log editions cs ds h.1 g.1)
+    omega (arith, length-append c (end_to_end cs), length-append d (end_to_end ds), log_count settings (first edition.1 log) c d h.0 g.0, zip_count settings log editions cs ds h.1 g.1)
 
 -- those of all editions of a log
 pub certificates_count : (settings : Settings) (log : History) (cs ds : List Cert) → replay.AreCertificates settings log cs → replay.AreCertificates settings log ds → length cs ≡ length ds

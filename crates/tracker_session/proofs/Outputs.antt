@@ -13,7 +13,7 @@ use Rattle.admission_log.specs.Histories.{History, appended, first, tick_in}
 use Rattle.edition_form.specs.Certificates.{AreLogCertificates}
 use Rattle.edition_form.specs.Datagrams.{AreDatagramsOf}
 use Rattle.edition_form.specs.Prices.{ArePricesOf}
-use Rattle.tracker_session.specs.Replay.{AreCertificatesAt, AreOfAll, IsEditionAt, IsOutput, cut_before, cut_in, cuts_of, editions_of, last_cut, newest}
+use Rattle.tracker_session.specs.Replay.{AreCertificatesAt, AreOfAll, IsEditionAt, IsOutput, cut_before, cut_in, cuts_of, editions_of, end_to_end, last_cut, newest}
 use Rattle.tracker_session.proofs.Datagrams.{one_list_of_datagrams}
 use Rattle.tracker_session.proofs.Logs.{LogGoesOn, with_events}
 
@@ -61,9 +61,9 @@ zip_same R one (x ∷ xs) [] zs h k = absurd h
 zip_same R one (x ∷ xs) (y ∷ ys) [] h k = absurd k
 zip_same R one (x ∷ xs) (y ∷ ys) (z ∷ zs) h k = (λ i. one x y z h.0 k.0 i ∷ zip_same R one xs ys zs h.1 k.1 i)
 
-pub concat_append : {A : Type 0} (xs ys : List (List A)) → concat (xs ++ ys) ≡ concat xs ++ concat ys
-concat_append [] ys = refl
-concat_append (x ∷ xs) ys = ap (λ t. x ++ t) (concat_append xs ys) ∙ sym (append_assoc x (concat xs) (concat ys))
+ends_append : {A : Type 0} (xs ys : List (List A)) → end_to_end (xs ++ ys) ≡ end_to_end xs ++ end_to_end ys
+ends_append [] ys = refl
+ends_append (x ∷ xs) ys = ap (λ t. x ++ t) (ends_append xs ys) ∙ sym (append_assoc x (end_to_end xs) (end_to_end ys))
 
 -- ---- the editions of a longer log
 
@@ -167,7 +167,7 @@ module _ {A : Type 0} (AreOf : History → ℕ × ℕ → List A → Type 0) (ke
       record {
         pieces = h.pieces ++ piece ∷ [];
         editions = subst (λ (es : List (ℕ × ℕ)). AllZip (AreOf longer) es (h.pieces ++ piece ∷ [])) (sym (editions_more log (Tick time ∷ []))) grown;
-        whole = ap (λ t. t ++ piece) h.whole ∙ ap (λ t. concat h.pieces ++ t) (sym (append-nil piece)) ∙ sym (concat_append h.pieces (piece ∷ []));
+        whole = ap (λ t. t ++ piece) h.whole ∙ ap (λ t. end_to_end h.pieces ++ t) (sym (append-nil piece)) ∙ sym (ends_append h.pieces (piece ∷ []));
       }
 
   -- any other event gives none
@@ -193,7 +193,7 @@ one_edition settings log edition a b h k = h.whole ∙ ap concat (one_list_of_da
 
 pub outputs_same : (settings : Settings) (log : History) (a b : List ℕ) → IsOutput settings log a → IsOutput settings log b → a ≡ b
 outputs_same settings log a b h k =
-    h.whole ∙ ap concat (zip_same (IsEditionAt settings log) (one_edition settings log) (editions_of log) h.pieces k.pieces h.editions k.editions) ∙ sym k.whole
+    h.whole ∙ ap end_to_end (zip_same (IsEditionAt settings log) (one_edition settings log) (editions_of log) h.pieces k.pieces h.editions k.editions) ∙ sym k.whole
 
 -- the output of a log is a prefix of that of a longer one
 pub output_prefix : (settings : Settings) (log longer : History) (out whole : List ℕ) → LogGoesOn log longer → IsOutput settings log out → IsOutput settings longer whole → GoesOn out whole
@@ -203,6 +203,6 @@ output_prefix settings log longer out whole on h k =
     let editions = subst (λ (es : List (ℕ × ℕ)). AllZip (IsEditionAt settings after) es same.pieces) (editions_more log on.more) same.editions in
     let pieces = zip_prefix (IsEditionAt settings after) (one_edition settings after) (editions_of log) (editions_after log on.more) h.pieces same.pieces (editions_kept (IsEditionAt settings) (output_kept settings) log on.more h.pieces h.editions) editions in
     record {
-      rest = concat pieces.rest;
-      parts = same.whole ∙ ap concat pieces.parts ∙ concat_append h.pieces pieces.rest ∙ ap (λ t. t ++ concat pieces.rest) (sym h.whole);
+      rest = end_to_end pieces.rest;
+      parts = same.whole ∙ ap end_to_end pieces.parts ∙ ends_append h.pieces pieces.rest ∙ ap (λ t. t ++ end_to_end pieces.rest) (sym h.whole);
     }

@@ -1,6 +1,6 @@
 -- What a replay gives for the settings and the octets of its input: the log of its items, the editions at the ticks of that log, and the counts.
 use Rattle.std.specs.Prelude.{◌≡◌, ◌<◌, ◌≤◌, ◌-◌, ℕ, List, [], ◌∷◌, ◌++◌, fold, length, Option, Some, None}
-use Rattle.std.specs.List.{AllZip, concat, enumerate_from, filter_map}
+use Rattle.std.specs.List.{AllZip, concat, enumerate_from, filter_map, flat_map}
 use Rattle.std.specs.Option.{option_map}
 use Rattle.price_form.specs.declared.certs.Cert.{Cert}
 use Rattle.price_form.specs.Files.{magic}
@@ -85,11 +85,15 @@ pub record IsEditionAt (settings : Settings) (log : History) (edition : ℕ × �
   pub are : AreDatagramsOf settings (first edition.1 log) (cut_before log edition.1) edition.0 datagrams
   pub whole : octets ≡ concat datagrams
 
+-- pieces, one after the other
+abbrev pub end_to_end : {A : Type 0} → List (List A) → List A
+end_to_end pieces = flat_map (λ piece. piece) pieces
+
 -- It is what is of all editions of a log, one after the other, where this says what is of each: octets, or certificates.
 pub record AreOfAll {A : Type 0} (AreOf : History → ℕ × ℕ → List A → Type 0) (log : History) (all : List A) : Type 0 where
   pub pieces : List (List A)
   pub editions : AllZip (AreOf log) (editions_of log) pieces
-  pub whole : all ≡ concat pieces
+  pub whole : all ≡ end_to_end pieces
 
 -- the datagrams of all of them
 abbrev pub IsOutput : Settings → History → List ℕ → Type 0

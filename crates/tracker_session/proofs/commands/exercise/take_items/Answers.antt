@@ -1,4 +1,5 @@
-use Rattle.std.proofs.Common.{rules, ◌≡◌, ◌∙◌, ◌<◌, ◌≤◌, ap, sym, subst, ℕ, List, length, get_or, false}
+use Rattle.std.proofs.Common.{rules, ◌≡◌, ◌∙◌, ◌<◌, ◌≤◌, ap, sym, subst, ℕ, ◌+◌, List, length, get_or, false}
+use Rattle.std.specs.List.{concat}
 use Rattle.recording.specs.Answers.{item_of, items_of}
 use Rattle.recording.specs.declared.header.Header.TheVariants.{Second}
 use Rattle.recording.specs.declared.item.Item.{Item as Held}
@@ -7,7 +8,7 @@ use Rattle.admission_log.specs.declared.settings.Settings.{Settings}
 use Rattle.admission_log.specs.Histories.{History}
 use Rattle.admission_log.specs.Legality.{IsLegal}
 use Rattle.tracker_session.specs.declared.editions.Editions.{Editions}
-use Rattle.tracker_session.specs.Counting.{counts_of}
+use Rattle.tracker_session.specs.Counting.{counted, counts_of}
 use Rattle.tracker_session.specs.Editions.{AreGiven, HasNext, IsNewest}
 use Rattle.tracker_session.specs.Replay.{IsReplayLog, log_with}
 use Rattle.tracker_session.specs.Taking.{Takes, shows}
@@ -74,12 +75,14 @@ loop-item-preserved g c =
           let edition = w.in_ok-edition.edition in
           let newest = subst (λ (s : Settings). IsNewest s run'.log edition) eq w.in_ok-edition.ensures.newest in
           let given = subst (λ (s : Settings). AreGiven s run'.log w.advance.new.self) eq w.in_ok-edition.ensures.given in
+          let octets : w.more_octets.result ≡ counted (o + length (concat edition.datagrams)) = search rules in
+          let certs : w.more.result ≡ counted (n + length edition.certs) = search rules in
           let shown = shown_counted settings run.log (item_of d) t.added t.has.adds o n inv.counted_are edition (t.shown_is ∙ w.if-branch.true) (subst (λ (l : History). IsNewest settings l edition) t.has.log newest) in
           record {
             legal = legal;
             given = subst (λ (e : Editions). AreGiven settings run'.log e) (sym w.editions-is) given;
             stands = stands;
-            counted_are = counted_as settings (log_with run.log t.added) run'.log _ _ _ _ t.has.log ? ? shown;
+            counted_are = counted_as settings (log_with run.log t.added) run'.log _ _ _ _ t.has.log (w.octets-is ∙ octets) (w.certificates-is ∙ certs) shown;
           })
       | else-branch w ↦ (
           let silent : shows t.added ≡ false = t.shown_is ∙ w.if-branch.false in
