@@ -10,6 +10,7 @@ pub mod Growing
 pub mod Inputs
 pub mod Items
 pub mod Logs
+pub mod Moving
 pub mod Nexts
 pub mod Numerals
 pub mod OneEnd
@@ -21,5 +22,6 @@ pub mod SceneRadars
 pub mod SomeReplay
 pub mod Tallying
 pub mod Totaling
+pub mod Underway
 pub mod Verdicts
 pub mod Worked

@@ -1,8 +1,8 @@
 -- The next edition of a log, at a tick that was just taken.
-use Rattle.std.proofs.Common.{◌≡◌, ◌≤◌, ◌<◌, ◌∙◌, ap, sym, refl, subst, arith, ℕ, ◌+◌, ◌-◌, List, [], ◌∷◌, length, drop, take, Bool, true, false}
-use Rattle.std.specs.Prelude.{Option, Some, None, Result, Ok, Err, All, IfOk, fold, if◌then◌else◌, ◌==◌}
+use Rattle.std.proofs.Common.{◌≡◌, ◌≤◌, ◌<◌, ◌∙◌, ap, sym, refl, subst, arith, ℕ, ◌+◌, List, [], ◌∷◌, ◌++◌, length, drop, append-nil, Bool, true, false}
+use Rattle.std.specs.Prelude.{Option, Some, None, All, fold, if◌then◌else◌, ◌==◌}
 use Rattle.std.proofs.lemmas.Bool.{ne_eqb}
-use Rattle.std.proofs.lemmas.List.{length_push, length-drop, take_all, take-append-drop, take-append-le}
+use Rattle.std.proofs.lemmas.List.{drop-append-le, length_push, length-drop, take_all, take-append-drop, take-append-le}
 use Rattle.admission_log.specs.declared.settings.Settings.{Settings}
 use Rattle.admission_log.specs.declared.events.Event.{Event}
 use Rattle.admission_log.specs.declared.events.Event.TheVariants.{Tick}
@@ -14,6 +14,7 @@ use Rattle.edition_form.specs.Datagrams.{AreDatagramsOf, shown_at, shown_of}
 use Rattle.edition_form.specs.Editions.{IsEdition}
 use Rattle.edition_form.specs.Prices.{ArePricesOf}
 use Rattle.std.specs.List.{concat}
+use Rattle.std.specs.Option.{option_to_list}
 use Rattle.tracker_engine.specs.Engines.{Continues, EngineState, StandsFor}
 use Rattle.tracker_engine.specs.Engines as engines
 use Rattle.tracker_session.specs.declared.editions.Editions.{Editions}
@@ -30,15 +31,16 @@ use Rattle.tracker_session.proofs.Outputs.{cuts_still, cuts_tick, last_tick, las
 pub first_all : (log : History) → first (length log.events) log ≡ log
 first_all log = (λ i. record { start = log.start; events = take_all (length log.events) log.events (omega arith) i })
 
--- the rest from a cut on, as a slice
-pub new_events : (events es : List Event) (cut : ℕ) → events ≡ es → take (length events - cut) (drop cut events) ≡ drop cut es
-new_events events es cut e = take_all (length events - cut) (drop cut events) (omega (arith, length-drop cut events)) ∙ ap (drop cut) e
+-- the events since a cut, with what is added to the log
+pub newest_more : (log : History) (added : Option Event) (cut : ℕ) (recent longer : List Event) → cut ≤ length log.events → recent ≡ drop cut log.events → longer ≡ recent ++ option_to_list added → longer ≡ drop cut (log_with log added).events
+newest_more log None cut recent longer within is more = more ∙ append-nil recent ∙ is
+newest_more log (Some event) cut recent longer within is more = more ∙ ap (λ es. es ++ event ∷ []) is ∙ sym (drop-append-le cut log.events (event ∷ []) within)
 
 -- up to a cut a log with one more event is the same
 first_kept : (log : History) (event : Event) (cut : ℕ) → cut ≤ length log.events → first cut log ≡ first cut (appended log event)
 first_kept log event cut within = (λ i. record { start = log.start; events = sym (take-append-le cut log.events (event ∷ []) within) i })
 
-module _ (settings : Settings) (log : History) (editions : Editions) (h : HasNext settings log editions) where
+module _ (settings : Settings) (log : History) (recent : List Event) (editions : Editions) (h : HasNext settings log recent editions) where
   -- the log is the earlier one with the tick
   pub number_of_events : length log.events ≡ length h.earlier.events + 1
   number_of_events = omega (arith, ap (λ (l : History). length l.events) h.parts, length_push h.earlier.events (Tick h.time))
@@ -57,15 +59,16 @@ module _ (settings : Settings) (log : History) (editions : Editions) (h : HasNex
   pub legal_rest : IsLegal settings (engines.with_events (first editions.cut log) (drop editions.cut log.events))
   legal_rest = subst (λ (l : History). IsLegal settings l) (sym rest_are) h.legal
 
-  pub continues : Continues editions.engine (drop editions.cut log.events)
-  continues = record { settings = settings; log = first editions.cut log; settled = editions.cut; before = editions.cut; stands = stands_first; legal = legal_rest }
+  pub continues : Continues editions.engine recent
+  continues = record { settings = settings; log = first editions.cut log; settled = editions.cut; before = editions.cut; stands = stands_first; legal = subst (λ (es : List Event). IsLegal settings (engines.with_events (first editions.cut log) es)) (sym h.newest_are) legal_rest }
 
   -- the engine that took them in stands for all of the log
-  pub absorbed : (events : List Event) → events ≡ log.events → (new : EngineState) → ((s : Settings) (l : History) (settled before : ℕ) → StandsFor s l settled before editions.engine → IsLegal s (engines.with_events l (take (length events - editions.cut) (drop editions.cut events))) → StandsFor s (engines.with_events l (take (length events - editions.cut) (drop editions.cut events))) settled before new) → StandsFor settings log editions.cut editions.cut new
-  absorbed events e new stands =
-      let rest = new_events events log.events editions.cut e in
-      let legal = subst (λ (es : List Event). IsLegal settings (engines.with_events (first editions.cut log) es)) (sym rest) legal_rest in
-      subst (λ (l : History). StandsFor settings l editions.cut editions.cut new) (ap (engines.with_events (first editions.cut log)) rest ∙ rest_are) (stands settings (first editions.cut log) editions.cut editions.cut stands_first legal)
+  pub absorbed : (new : EngineState) → ((s : Settings) (l : History) (settled before : ℕ) → StandsFor s l settled before editions.engine → IsLegal s (engines.with_events l recent) → StandsFor s (engines.with_events l recent) settled before new) → StandsFor settings log editions.cut editions.cut new
+  absorbed new stands = subst (λ (l : History). StandsFor settings l editions.cut editions.cut new) (ap (engines.with_events (first editions.cut log)) h.newest_are ∙ rest_are) (stands settings (first editions.cut log) editions.cut editions.cut stands_first continues.legal)
+
+  -- the cut is the log's end
+  pub whole_cut : editions.cut + length recent ≡ length log.events
+  whole_cut = omega (arith, ap length h.newest_are, length-drop editions.cut log.events, cut_within, number_of_events)
 
   -- ---- the edition
 
@@ -166,7 +169,7 @@ adds_tick settings log (datagram feed x) (Some event) h shown = absurd (let sile
 adds_tick settings log (tick time) (Some event) h shown = record { time = time; is = ap Some h.1 }
 adds_tick settings log (bias radar slot b) (Some event) h shown = absurd (let silent : shows (Some event) ≡ false = ap (λ e. shows (Some e)) h.1 in cc)
 
-pub next_after : (settings : Settings) (log longer : History) (item : Item) (added : Option Event) (editions : Editions) → Adds settings log item added → shows added ≡ true → longer ≡ log_with log added → IsLegal settings longer → AreGiven settings log editions → HasNext settings longer editions
-next_after settings log longer item added editions adds shown grown legal given =
+pub next_after : (settings : Settings) (log longer : History) (item : Item) (added : Option Event) (recent : List Event) (editions : Editions) → Adds settings log item added → shows added ≡ true → longer ≡ log_with log added → IsLegal settings longer → AreGiven settings log editions → recent ≡ drop editions.cut longer.events → HasNext settings longer recent editions
+next_after settings log longer item added recent editions adds shown grown legal given newest_are =
     let t = adds_tick settings log item added adds shown in
-    record { earlier = log; time = t.time; parts = grown ∙ ap (log_with log) t.is; legal = legal; given = given }
+    record { earlier = log; time = t.time; parts = grown ∙ ap (log_with log) t.is; legal = legal; given = given; newest_are = newest_are }

@@ -1,6 +1,7 @@
 -- What is kept to give the editions of a log, and what is given of each.
-use Rattle.std.specs.Prelude.{◌≡◌, ℕ, List, All, length}
+use Rattle.std.specs.Prelude.{◌≡◌, ℕ, List, All, drop, length}
 use Rattle.admission_log.specs.declared.settings.Settings.{Settings}
+use Rattle.admission_log.specs.declared.events.Event.{Event}
 use Rattle.admission_log.specs.declared.events.Event.TheVariants.{Tick}
 use Rattle.admission_log.specs.Histories.{History, appended, first}
 use Rattle.admission_log.specs.Legality.{IsLegal}
@@ -25,13 +26,14 @@ pub record AreGiven (settings : Settings) (log : History) (editions : Editions) 
   pub tracks_are : editions.tracks ≡ length (shown_at settings log (last_cut log))
   pub stands : StandsFor settings (first editions.cut log) editions.cut editions.cut editions.engine
 
--- The last event of a legal log is a tick, and all editions before it were given.
-pub record HasNext (settings : Settings) (log : History) (editions : Editions) : Type 0 where
+-- The last event of a legal log is a tick, all editions before it were given, and these are the events since the last one.
+pub record HasNext (settings : Settings) (log : History) (newest : List Event) (editions : Editions) : Type 0 where
   pub earlier : History
   pub time : ℕ
   pub parts : log ≡ appended earlier (Tick time)
   pub legal : IsLegal settings log
   pub given : AreGiven settings earlier editions
+  pub newest_are : newest ≡ drop editions.cut log.events
 
 -- it is the newest edition of a log that ends with a tick, told against the one before, and its certificates can be written
 pub record IsNewest (settings : Settings) (log : History) (edition : Edition) : Type 0 where

@@ -9,7 +9,7 @@ ghost use Rattle.tracker_engine.specs.Engines.{StandsFor};
 ghost use Rattle.tracker_session.specs.Editions.{AreGiven, AreNewest, HasNext, IsNewest};
 ghost use Rattle.tracker_session.specs.Replay.{empty_log};
 
-use admission_log::{Log, Settings};
+use admission_log::{Event, Settings};
 use edition_form::{Built, Edition, Pictured, ShownLine};
 use std::alloc::Global;
 use std::sync::Arc;
@@ -54,56 +54,64 @@ impl Editions {
         })
     }
 
-    /// The octets of the edition of the log at the tick that was just taken. The certificates are
-    /// written from where the window has them.
+    /// The octets of the edition of the log at the tick that was just taken, from the events since
+    /// the edition before. The certificates are written from where the window has them.
     ///
     /// Where memory is wanting, no more editions can be given.
     pub fn next<L: Ledger>(
         &mut self,
         alloc: Global,
-        log: &Log,
+        newest: &[Event],
         steps: &mut Steps<L>,
     ) -> Result<EditionOctets, NoMemory>
-        requires { HasNext self.old.engine.settings log.now self.old }
-        ensures newest { IfOk result (AreNewest self.old.engine.settings log.now) }
-        ensures given { OnOk result (AreGiven self.old.engine.settings log.now self.new) }
+        requires { (log : History) × HasNext self.old.engine.settings log newest.now self.old }
+        ensures newest { (log : History) → HasNext self.old.engine.settings log newest.now self.old → IfOk result (AreNewest self.old.engine.settings log) }
+        ensures given { (log : History) → HasNext self.old.engine.settings log newest.now self.old → OnOk result (AreGiven self.old.engine.settings log self.new) }
     {
-        let number = self.reach(log, steps)?;
+        let (number, cut) = self.reach(newest, steps)?;
         let Pictured { datagrams, shown } = self.engine.pictured(number)?;
         let output = joined(alloc, datagrams.as_slice())?;
         let prices = self.engine.prices(number)?;
-        self.show(number, log.events().len(), shown.into_vec());
+        self.show(number, cut, shown.into_vec());
         Ok(EditionOctets { output, prices })
     }
 
-    /// The edition of the log at the tick that was just taken.
+    /// The edition of the log at the tick that was just taken, from the events since the edition
+    /// before.
     ///
     /// Where memory is wanting, no more editions can be given.
     pub fn advance<L: Ledger>(
         &mut self,
-        log: &Log,
+        newest: &[Event],
         steps: &mut Steps<L>,
     ) -> Result<Edition, NoMemory>
-        requires { HasNext self.old.engine.settings log.now self.old }
-        ensures newest { IfOk result (IsNewest self.old.engine.settings log.now) }
-        ensures given { OnOk result (AreGiven self.old.engine.settings log.now self.new) }
+        requires { (log : History) × HasNext self.old.engine.settings log newest.now self.old }
+        ensures newest { (log : History) → HasNext self.old.engine.settings log newest.now self.old → IfOk result (IsNewest self.old.engine.settings log) }
+        ensures given { (log : History) → HasNext self.old.engine.settings log newest.now self.old → OnOk result (AreGiven self.old.engine.settings log self.new) }
     {
-        let number = self.reach(log, steps)?;
+        let (number, cut) = self.reach(newest, steps)?;
         let Built { edition, shown } = self.engine.edition(number)?;
-        self.show(number, log.events().len(), shown.into_vec());
+        self.show(number, cut, shown.into_vec());
         Ok(edition)
     }
 
-    // Brings the tracks up to the log's last tick, and answers the number of the edition there.
-    fn reach<L: Ledger>(&mut self, log: &Log, steps: &mut Steps<L>) -> Result<u64, NoMemory>
-        requires { HasNext self.old.engine.settings log.now self.old }
-        ensures stands { OnOk result (StandsFor self.old.engine.settings log.now (length log.now.events) self.old.cut self.new.engine) }
-        ensures number { IfOk result (λ n. n ≡ self.old.number + 1) }
+    // Brings the tracks up to the log's last tick, and answers the number of the edition there, and
+    // its cut.
+    fn reach<L: Ledger>(
+        &mut self,
+        newest: &[Event],
+        steps: &mut Steps<L>,
+    ) -> Result<(u64, usize), NoMemory>
+        requires { (log : History) × HasNext self.old.engine.settings log newest.now self.old }
+        ensures stands { (log : History) → HasNext self.old.engine.settings log newest.now self.old → OnOk result (StandsFor self.old.engine.settings log (length log.events) self.old.cut self.new.engine) }
+        ensures number { IfOk result (λ r. r.0 ≡ self.old.number + 1) }
+        ensures cut { IfOk result (λ r. r.1 ≡ self.old.cut + length newest.now) }
     {
-        self.engine.absorb(&log.events()[self.cut..])?;
+        self.engine.absorb(newest)?;
         self.engine.settle(steps)?;
         let number = self.number.checked_add(1).ok_or(NoMemory)?;
-        Ok(number)
+        let cut = self.cut.checked_add(newest.len()).ok_or(NoMemory)?;
+        Ok((number, cut))
     }
 
     // The edition of this number was made, which shows all events up to the cut, and these tracks.

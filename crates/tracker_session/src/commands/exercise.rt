@@ -69,8 +69,9 @@ fn take_items<L: Ledger>(
     let mut octets = 0;
     let mut certificates = 0;
     for item in &reading.items {
-        if run.take(settings, *item)? {
-            let edition = editions.advance(&run.log, &mut steps)?;
+        if run.take(alloc, settings, *item)? {
+            let edition = editions.advance(run.newest(), &mut steps)?;
+            run.forget();
             octets = more_octets(octets, edition.datagrams.as_slice());
             certificates = more(certificates, edition.certs.len() as u64);
         }

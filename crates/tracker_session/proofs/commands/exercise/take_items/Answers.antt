@@ -1,20 +1,20 @@
-use Rattle.std.proofs.Common.{rules, ◌≡◌, ◌∙◌, ◌<◌, ◌≤◌, ap, sym, subst, ℕ, ◌+◌, List, length, get_or, false}
-use Rattle.std.specs.List.{concat}
+use Rattle.std.proofs.Common.{rules, ◌≡◌, ◌∙◌, ◌<◌, ◌≤◌, ap, sym, subst, ℕ, ◌+◌, List, [], ◌∷◌, ◌++◌, length, get_or, take, false}
 use Rattle.recording.specs.Answers.{item_of, items_of}
 use Rattle.recording.specs.declared.header.Header.TheVariants.{Second}
 use Rattle.recording.specs.declared.item.Item.{Item as Held}
 use Rattle.recording.specs.Items.{Item, IsItem}
 use Rattle.admission_log.specs.declared.settings.Settings.{Settings}
+use Rattle.admission_log.specs.declared.events.Event.{Event}
 use Rattle.admission_log.specs.Histories.{History}
-use Rattle.admission_log.specs.Legality.{IsLegal}
 use Rattle.tracker_session.specs.declared.editions.Editions.{Editions}
-use Rattle.tracker_session.specs.Counting.{counted, counts_of}
+use Rattle.tracker_session.specs.declared.taking.Run.{Run}
+use Rattle.tracker_session.specs.Counting.{counts_of}
 use Rattle.tracker_session.specs.Editions.{AreGiven, HasNext, IsNewest}
 use Rattle.tracker_session.specs.Replay.{IsReplayLog, log_with}
-use Rattle.tracker_session.specs.Taking.{Takes, shows}
+use Rattle.tracker_session.specs.Taking.{shows}
 use Rattle.tracker_session.specs.Totals.{AreCounted}
-use Rattle.tracker_session.proofs.Items.{all_taken, item_fits, stands_more}
-use Rattle.tracker_session.proofs.Nexts.{empty_legal, given_silent, next_after}
+use Rattle.tracker_session.proofs.Items.{all_taken, item_fits, next_taken}
+use Rattle.tracker_session.proofs.Underway.{Stands, begins, has_next, shown_on, silent_on}
 use Rattle.tracker_session.proofs.Totaling.{counted_as, none_counted, shown_counted, silent_counted}
 use Rattle.tracker_session.proofs.commands.exercise.take_items.Goals as goal
 use Rattle.tracker_session.proofs.commands.exercise.take_items.Goals.{then-branch+in_ok-edition, else-branch}
@@ -26,13 +26,8 @@ here ys xs i d same is = sym (is ∙ ap (λ (zs : List Held). get_or zs i d) sam
 pub loop-item-init : goal.loop-item-init
 loop-item-init g c =
     let settings = c.args.settings.now in
-    let stands = c.new-run.ensures settings in
-    record {
-      legal = subst (λ (log : History). IsLegal settings log) (sym stands.log) (empty_legal settings c.args.reading.now.start c.args.editions c.requires.given);
-      given = subst (λ (log : History). AreGiven settings log c.args.editions) (sym stands.log) c.requires.given;
-      stands = stands;
-      counted_are = subst (λ (log : History). AreCounted settings log 0 0) (sym stands.log) (none_counted settings c.args.reading.now.start);
-    }
+    let start = c.args.reading.now.start in
+    (begins settings false start c.new-run.run c.args.editions c.new-run.ensures.keeps c.new-run.ensures.newest c.requires.given, none_counted settings start)
 
 pub take-requires : goal.take-requires
 take-requires g c =
@@ -45,67 +40,61 @@ take-requires g c =
 
 pub advance-requires : goal.advance-requires
 advance-requires g c =
-    let settings = c.args.settings.now in
-    let inv = c.loop-item.invariant in
-    let t = c.in_ok-take.ensures.takes in
-    let new = c.take.new.self.log in
-    subst (λ (s : Settings). HasNext s new c.loop-item.editions) (sym inv.given.stands.settings_are)
-    (next_after settings c.loop-item.run.log new (item_of c.item-item.result) t.added c.loop-item.editions t.has.adds (t.shown_is ∙ c.if-branch.true) t.has.log (c.in_ok-take.ensures.legal inv.legal) inv.given)
+    let u = c.loop-item.invariant.0 in
+    let m = c.in_ok-take.ensures u.progress u.keeps in
+    let has = has_next c.args.settings.now false c.args.reading.now.start _ c.loop-item.run c.take.new.self c.loop-item.editions u (item_of c.item-item.result) c.in_ok-take.field-0 m (m.takes.shown_is ∙ c.if-branch.true) in
+    (m.after.log, subst (λ (z : Settings × List Event). HasNext z.0 m.after.log z.1 c.loop-item.editions) (λ i. (sym u.given.stands.settings_are i, sym c.newest.ensures i)) has)
 
 pub loop-item-preserved : goal.loop-item-preserved
 loop-item-preserved g c =
     let settings = c.args.settings.now in
     let start = c.args.reading.now.start in
     let xs = c.args.reading.now.items.items in
+    let items = items_of xs in
     let i = c.loop-item.item-index in
     let d = c.item-item.result in
     let lt : i < length xs = search rules in
     let is = here _ xs i d c.deref-item-items.ensures.value c.item-item.is in
-    let run = c.loop-item.run in
-    let run' = c.take.new.self in
+    let longer = next_taken xs i d lt ∙ ap (λ (x : Held). take i items ++ item_of x ∷ []) is in
     let inv = c.loop-item.invariant in
-    let t = c.in_ok-take.ensures.takes in
-    let legal = c.in_ok-take.ensures.legal inv.legal in
-    let stands = stands_more settings false start xs i d c.in_ok-take.field-0 run run' lt inv.stands (subst (λ (x : Held). Takes settings (item_of x) c.in_ok-take.field-0 run run') (sym is) t) in
+    let u = inv.0 in
+    let m = c.in_ok-take.ensures u.progress u.keeps in
+    let t = m.takes in
     let o = c.loop-item.octets in
     let n = c.loop-item.certificates in
+    let P = λ (log : History). AreCounted settings log c.if-branch.octets c.if-branch.certificates in
     elim c.if-branch.branch [
       | then-branch+in_ok-edition w ↦ (
-          let eq = inv.given.stands.settings_are in
+          let eq = u.given.stands.settings_are in
           let edition = w.in_ok-edition.edition in
-          let newest = subst (λ (s : Settings). IsNewest s run'.log edition) eq w.in_ok-edition.ensures.newest in
-          let given = subst (λ (s : Settings). AreGiven s run'.log w.advance.new.self) eq w.in_ok-edition.ensures.given in
-          let octets : w.more_octets.result ≡ counted (o + length (concat edition.datagrams)) = search rules in
-          let certs : w.more.result ≡ counted (n + length edition.certs) = search rules in
-          let shown = shown_counted settings run.log (item_of d) t.added t.has.adds o n inv.counted_are edition (t.shown_is ∙ w.if-branch.true) (subst (λ (l : History). IsNewest settings l edition) t.has.log newest) in
-          record {
-            legal = legal;
-            given = subst (λ (e : Editions). AreGiven settings run'.log e) (sym w.editions-is) given;
-            stands = stands;
-            counted_are = counted_as settings (log_with run.log t.added) run'.log _ _ _ _ t.has.log (w.octets-is ∙ octets) (w.certificates-is ∙ certs) shown;
-          })
+          let shown = t.shown_is ∙ w.if-branch.true in
+          let has = has_next settings false start (take i items) c.loop-item.run c.take.new.self c.loop-item.editions u (item_of d) c.in_ok-take.field-0 m shown in
+          let own = subst (λ (z : Settings × List Event). HasNext z.0 m.after.log z.1 c.loop-item.editions) (λ j. (sym eq j, sym w.newest.ensures j)) has in
+          let newest = subst (λ (s : Settings). IsNewest s m.after.log edition) eq (w.in_ok-edition.ensures.newest m.after.log own) in
+          let given = subst (λ (s : Settings). AreGiven s m.after.log w.advance.new.self) eq (w.in_ok-edition.ensures.given m.after.log own) in
+          let counted = shown_counted settings u.progress.log (item_of d) t.added t.has.adds o n inv.1 edition shown (subst (λ (l : History). IsNewest settings l edition) t.has.log newest) in
+          let on : Stands settings false start P (take i items ++ item_of d ∷ []) w.forget.new.self w.advance.new.self = (
+              shown_on settings false start (take i items) c.loop-item.run c.take.new.self c.loop-item.editions u (item_of d) c.in_ok-take.field-0 m shown w.forget.new.self w.advance.new.self given w.forget.ensures.log w.forget.ensures.counts w.forget.ensures.newest,
+              counted_as settings (log_with u.progress.log t.added) m.after.log _ _ _ _ t.has.log ? ? counted) in
+          subst (λ (z : List Item × (Run × Editions)). Stands settings false start P z.0 z.1.0 z.1.1) (λ j. (sym longer j, (sym w.run-is j, sym w.editions-is j))) on)
       | else-branch w ↦ (
           let silent : shows t.added ≡ false = t.shown_is ∙ w.if-branch.false in
-          let given = subst (λ (l : History). AreGiven settings l c.loop-item.editions) (sym t.has.log) (given_silent settings run.log (item_of d) t.added c.loop-item.editions t.has.adds silent inv.given) in
-          record {
-            legal = legal;
-            given = subst (λ (e : Editions). AreGiven settings run'.log e) (sym w.editions-is) given;
-            stands = stands;
-            counted_are = counted_as settings (log_with run.log t.added) run'.log _ _ _ _ t.has.log w.octets-is w.certificates-is (silent_counted settings run.log (item_of d) t.added t.has.adds o n inv.counted_are silent);
-          })
+          let on : Stands settings false start P (take i items ++ item_of d ∷ []) c.take.new.self c.loop-item.editions = (
+              silent_on settings false start (take i items) c.loop-item.run c.take.new.self c.loop-item.editions u (item_of d) c.in_ok-take.field-0 m silent,
+              counted_as settings (log_with u.progress.log t.added) m.after.log _ _ _ _ t.has.log w.octets-is w.certificates-is (silent_counted settings u.progress.log (item_of d) t.added t.has.adds o n inv.1 silent)) in
+          subst (λ (z : List Item × (Run × Editions)). Stands settings false start P z.0 z.1.0 z.1.1) (λ j. (sym longer j, (sym w.run-is j, sym w.editions-is j))) on)
     ]
 
 pub returns : goal.returns
 returns g c =
-    let settings = c.args.settings.now in
     let xs = c.args.reading.now.items.items in
-    let items = items_of xs in
     let i = c.loop-item.item-index in
     let all : length xs ≤ i = search rules in
-    let inv = c.loop-item.invariant in
+    let u = c.loop-item.invariant.0 in
+    let log = u.progress.log in
     record {
-      log = c.loop-item.run.log;
-      log_is = subst (λ (its : List Item). IsReplayLog settings c.args.reading.now.start its c.loop-item.run.log) (all_taken xs i all) inv.stands.log;
-      counts_are = inv.stands.counts ∙ ap (λ its. counts_of false its c.loop-item.run.log) (all_taken xs i all);
-      totals_are = record { tracks_are = inv.given.tracks_are; counted_are = inv.counted_are };
+      log = log;
+      log_is = subst (λ (its : List Item). IsReplayLog c.args.settings.now c.args.reading.now.start its log) (all_taken xs i all) u.stands.log;
+      counts_are = u.keeps.counts ∙ u.stands.counts ∙ ap (λ its. counts_of false its log) (all_taken xs i all);
+      totals_are = record { tracks_are = u.given.tracks_are; counted_are = c.loop-item.invariant.1 };
     }

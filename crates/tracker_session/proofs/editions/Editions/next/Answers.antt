@@ -2,47 +2,52 @@ use Rattle.std.proofs.Common.{◌≡◌, ◌∙◌, ap, sym, subst, arith, ℕ, 
 use Rattle.std.specs.List.{concat}
 use Rattle.edition_form.specs.Datagrams.{shown_at}
 use Rattle.tracker_engine.specs.Engines.{StandsFor}
-use Rattle.tracker_session.proofs.Nexts.{cut_within, given_next, number_of_events, picture_output, picture_prices, shown_here}
+use Rattle.tracker_session.proofs.Nexts.{given_next, picture_output, picture_prices, shown_here, whole_cut}
 use Rattle.tracker_session.proofs.editions.Editions.next.Goals as goal
 
 pub pictured-requires : goal.pictured-requires
 pictured-requires g c =
     let editions = c.args.self.now in
-    record { settled = record { settings = editions.engine.settings; log = c.args.log.now; before = editions.cut; stands = c.in_ok-number.ensures.stands } }
+    let h = c.requires in
+    record { settled = record { settings = editions.engine.settings; log = h.0; before = editions.cut; stands = c.in_ok-number.ensures.stands h.0 h.1 } }
 
 pub show-requires-clause-rises : goal.show-requires-clause-rises
 show-requires-clause-rises g c =
     let editions = c.args.self.now in
     let settings = editions.engine.settings in
-    let log = c.args.log.now in
-    let stands = c.in_ok-number.ensures.stands in
-    omega (arith, stands.before_is, cut_within settings log editions c.requires, number_of_events settings log editions c.requires, ap length c.events.ensures.value)
+    let h = c.requires in
+    let stands = c.in_ok-number.ensures.stands h.0 h.1 in
+    omega (arith, stands.before_is, c.in_ok-number.ensures.cut)
 
 pub show-requires-clause-within : goal.show-requires-clause-within
-show-requires-clause-within g c = omega (arith, c.in_ok-number.ensures.stands.count_is, ap length c.events.ensures.value)
-
-pub returns-clause-newest : goal.returns-clause-newest
-returns-clause-newest g c =
+show-requires-clause-within g c =
     let editions = c.args.self.now in
     let settings = editions.engine.settings in
-    let log = c.args.log.now in
-    let stands = c.in_ok-number.ensures.stands in
-    let number = c.in_ok-number.number in
+    let h = c.requires in
+    omega (arith, (c.in_ok-number.ensures.stands h.0 h.1).count_is, c.in_ok-number.ensures.cut, whole_cut settings h.0 c.args.newest.now editions h.1)
+
+pub returns-clause-newest : goal.returns-clause-newest
+returns-clause-newest g c log h =
+    let editions = c.args.self.now in
+    let settings = editions.engine.settings in
+    let newest = c.args.newest.now in
+    let stands = c.in_ok-number.ensures.stands log h in
+    let number = c.in_ok-number.field-0.0 in
     let n = c.in_ok-number.ensures.number in
     record {
-      output = picture_output settings log editions c.requires number c.in_ok-datagrams.field-0.datagrams c.in_ok-output.output.items n (c.in_ok-datagrams.ensures.datagrams settings log editions.cut stands) (c.in_ok-output.ensures ∙ ap concat c.as_slice.ensures);
-      prices = picture_prices settings log editions c.requires number c.in_ok-prices.prices.items n (c.in_ok-prices.ensures settings log editions.cut stands);
+      output = picture_output settings log newest editions h number c.in_ok-datagrams.field-0.datagrams c.in_ok-output.output.items n (c.in_ok-datagrams.ensures.datagrams settings log editions.cut stands) (c.in_ok-output.ensures ∙ ap concat c.as_slice.ensures);
+      prices = picture_prices settings log newest editions h number c.in_ok-prices.prices.items n (c.in_ok-prices.ensures settings log editions.cut stands);
     }
 
 pub returns-clause-given : goal.returns-clause-given
-returns-clause-given g c =
+returns-clause-given g c log h =
     let editions = c.args.self.now in
     let settings = editions.engine.settings in
-    let log = c.args.log.now in
-    let stands = c.in_ok-number.ensures.stands in
-    let cut : length c.events.result.now ≡ length log.events = ap length c.events.ensures.value in
+    let newest = c.args.newest.now in
+    let stands = c.in_ok-number.ensures.stands log h in
+    let cut : c.in_ok-number.field-0.1 ≡ length log.events = c.in_ok-number.ensures.cut ∙ whole_cut settings log newest editions h in
     let shown = c.into_vec.ensures ∙ c.in_ok-datagrams.ensures.shown settings log editions.cut stands in
-    let there = shown ∙ shown_here settings log editions c.requires ∙ ap (shown_at settings log) (sym cut) in
+    let there = shown ∙ shown_here settings log newest editions h ∙ ap (shown_at settings log) (sym cut) in
     let after = c.show.ensures.stands settings log (length log.events) editions.cut stands there in
-    given_next settings log editions c.requires c.show.new.self (c.show.ensures.number ∙ c.in_ok-number.ensures.number) (c.show.ensures.cut ∙ cut) (c.show.ensures.tracks ∙ ap length shown)
+    given_next settings log newest editions h c.show.new.self (c.show.ensures.number ∙ c.in_ok-number.ensures.number) (c.show.ensures.cut ∙ cut) (c.show.ensures.tracks ∙ ap length shown)
     (subst (λ (n : ℕ). StandsFor settings log (length log.events) n c.show.new.self.engine) cut after)
