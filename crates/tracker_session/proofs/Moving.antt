@@ -25,6 +25,7 @@ module _ (settings : Settings) (before : Progress) (old new : Run) (keeps : Keep
   pub delivered_on : (feed : ℕ) (octets : List ℕ) (contents : List Content) (event : Event) → IsDatagram octets contents → IsDelivery settings old.log.last old.log.next feed contents event
       → new.log ≡ summary_of (appended before.log event) → new.counts ≡ record (with_told (outcomes_in event) old.counts) { other = counted (old.counts.other + others_in event) } → new.newest.items ≡ old.newest.items ++ event ∷ []
       → (IsLegal settings before.log → IsLegal settings (appended before.log event)) → Moves settings (datagram feed octets) false before old new
+  unfolding admitted_taken
   delivered_on feed octets contents event is delivery log counts newest legal =
       let tell : Counts → Counts = λ n. record (with_told (outcomes_in event) n) { other = counted (n.other + others_in event) } in
       record {
@@ -53,6 +54,7 @@ module _ (settings : Settings) (before : Progress) (old new : Run) (keeps : Keep
 
   pub change_on : (radar slot : ℕ) (b : Bias) → IsOpenChange settings old.log.last radar slot → new.log ≡ summary_of (appended before.log (Change radar slot b)) → new.counts ≡ record old.counts { biases = counted (old.counts.biases + 1) } → new.newest.items ≡ old.newest.items ++ Change radar slot b ∷ []
       → (IsLegal settings before.log → IsLegal settings (appended before.log (Change radar slot b))) → Moves settings (bias radar slot b) false before old new
+  unfolding change_taken
   change_on radar slot b is_open log counts newest legal =
       let tell : Counts → Counts = λ n. record n { biases = counted (n.biases + 1) } in
       record {
@@ -70,6 +72,7 @@ module _ (settings : Settings) (before : Progress) (old new : Run) (keeps : Keep
     none_newer = same ∙ sym (append-nil old.newest.items)
 
     pub malformed_on : (feed : ℕ) (octets : List ℕ) → HasFault octets → new.counts ≡ record old.counts { malformed = counted (old.counts.malformed + 1) } → Moves settings (datagram feed octets) false before old new
+    unfolding malformed_taken
     malformed_on feed octets fault counts =
         let tell : Counts → Counts = λ n. record n { malformed = counted (n.malformed + 1) } in
         record {
@@ -81,6 +84,7 @@ module _ (settings : Settings) (before : Progress) (old new : Run) (keeps : Keep
         }
 
     pub old_on : (time : ℕ) → time ≤ old.log.last → new.counts ≡ record old.counts { old = counted (old.counts.old + 1) } → Moves settings (tick time) false before old new
+    unfolding old_tick_taken
     old_on time late counts =
         let tell : Counts → Counts = λ n. record n { old = counted (n.old + 1) } in
         record {
@@ -92,6 +96,7 @@ module _ (settings : Settings) (before : Progress) (old new : Run) (keeps : Keep
         }
 
     pub refused_on : (radar slot : ℕ) (b : Bias) → (IsOpenChange settings old.log.last radar slot → ⊥) → new.counts ≡ record old.counts { refused = counted (old.counts.refused + 1) } → Moves settings (bias radar slot b) false before old new
+    unfolding refused_taken
     refused_on radar slot b closed counts =
         let tell : Counts → Counts = λ n. record n { refused = counted (n.refused + 1) } in
         record {

@@ -1,5 +1,5 @@
 -- The next edition of a log, at a tick that was just taken.
-use Rattle.std.proofs.Common.{◌≡◌, ◌≤◌, ◌<◌, ◌∙◌, ap, sym, refl, subst, arith, ℕ, ◌+◌, List, [], ◌∷◌, ◌++◌, length, drop, append-nil, Bool, true, false}
+use Rattle.std.proofs.Common.{◌≡◌, ◌≤◌, ◌<◌, ◌∙◌, ap, sym, refl, subst, arith, ℕ, ◌+◌, ◌-◌, List, [], ◌∷◌, ◌++◌, length, drop, append-nil, Bool, true, false}
 use Rattle.std.specs.Prelude.{Option, Some, None, All, fold, if◌then◌else◌, ◌==◌}
 use Rattle.std.proofs.lemmas.Bool.{ne_eqb}
 use Rattle.std.proofs.lemmas.List.{drop-append-le, length_push, length-drop, take_all, take-append-drop, take-append-le}
@@ -59,12 +59,15 @@ module _ (settings : Settings) (log : History) (recent : List Event) (editions :
   pub legal_rest : IsLegal settings (engines.with_events (first editions.cut log) (drop editions.cut log.events))
   legal_rest = subst (λ (l : History). IsLegal settings l) (sym rest_are) h.legal
 
+  legal_recent : IsLegal settings (engines.with_events (first editions.cut log) recent)
+  legal_recent = subst (λ (es : List Event). IsLegal settings (engines.with_events (first editions.cut log) es)) (sym h.newest_are) legal_rest
+
   pub continues : Continues editions.engine recent
-  continues = record { settings = settings; log = first editions.cut log; settled = editions.cut; before = editions.cut; stands = stands_first; legal = subst (λ (es : List Event). IsLegal settings (engines.with_events (first editions.cut log) es)) (sym h.newest_are) legal_rest }
+  continues = record { settings = settings; log = first editions.cut log; settled = editions.cut; before = editions.cut; stands = stands_first; legal = legal_recent }
 
   -- the engine that took them in stands for all of the log
   pub absorbed : (new : EngineState) → ((s : Settings) (l : History) (settled before : ℕ) → StandsFor s l settled before editions.engine → IsLegal s (engines.with_events l recent) → StandsFor s (engines.with_events l recent) settled before new) → StandsFor settings log editions.cut editions.cut new
-  absorbed new stands = subst (λ (l : History). StandsFor settings l editions.cut editions.cut new) (ap (engines.with_events (first editions.cut log)) h.newest_are ∙ rest_are) (stands settings (first editions.cut log) editions.cut editions.cut stands_first continues.legal)
+  absorbed new stands = subst (λ (l : History). StandsFor settings l editions.cut editions.cut new) (ap (engines.with_events (first editions.cut log)) h.newest_are ∙ rest_are) (stands settings (first editions.cut log) editions.cut editions.cut stands_first legal_recent)
 
   -- the cut is the log's end
   pub whole_cut : editions.cut + length recent ≡ length log.events

@@ -112,7 +112,7 @@ module _ (p : Item → Bool) (q : Event → Bool) (items : List Item) (item : It
 
 -- ---- what is passed over
 
-pub malformed_taken : (settings : Settings) (feed : ℕ) (octets : List ℕ) (old new : Progress) → HasFault octets → new.log ≡ old.log → new.counts ≡ record old.counts { malformed = counted (old.counts.malformed + 1) } → Takes settings (datagram feed octets) false old new
+unfoldable pub malformed_taken : (settings : Settings) (feed : ℕ) (octets : List ℕ) (old new : Progress) → HasFault octets → new.log ≡ old.log → new.counts ≡ record old.counts { malformed = counted (old.counts.malformed + 1) } → Takes settings (datagram feed octets) false old new
 malformed_taken settings feed octets old new fault log counts =
     record {
       added = None;
@@ -132,7 +132,7 @@ malformed_taken settings feed octets old new fault log counts =
         ∙ (λ i. record (counts_of tells items old.log) { malformed = one i; old = olds i; refused = refused i })
         ∙ ap (counts_of tells (items ++ item ∷ [])) (sym log)
 
-pub old_tick_taken : (settings : Settings) (time : ℕ) (old new : Progress) → time ≤ last_of old.log → new.log ≡ old.log → new.counts ≡ record old.counts { old = counted (old.counts.old + 1) } → Takes settings (tick time) false old new
+unfoldable pub old_tick_taken : (settings : Settings) (time : ℕ) (old new : Progress) → time ≤ last_of old.log → new.log ≡ old.log → new.counts ≡ record old.counts { old = counted (old.counts.old + 1) } → Takes settings (tick time) false old new
 old_tick_taken settings time old new late log counts =
     record {
       added = None;
@@ -154,7 +154,7 @@ old_tick_taken settings time old new late log counts =
 
 -- ---- what is taken
 
-pub admitted_taken : (settings : Settings) (feed : ℕ) (octets : List ℕ) (contents : List Content) (event : Event) (old new : Progress) → IsDatagram octets contents → IsDeliveryTo settings old.log feed contents event → new.log ≡ appended old.log event → new.counts ≡ record (with_told (outcomes_in event) old.counts) { other = counted (old.counts.other + others_in event) } → Takes settings (datagram feed octets) false old new
+unfoldable pub admitted_taken : (settings : Settings) (feed : ℕ) (octets : List ℕ) (contents : List Content) (event : Event) (old new : Progress) → IsDatagram octets contents → IsDeliveryTo settings old.log feed contents event → new.log ≡ appended old.log event → new.counts ≡ record (with_told (outcomes_in event) old.counts) { other = counted (old.counts.other + others_in event) } → Takes settings (datagram feed octets) false old new
 admitted_taken settings feed octets contents event old new is delivery log counts =
     record {
       added = Some event;
@@ -229,7 +229,7 @@ tick_taken settings time old new later log counts =
 
 -- ---- changes of biases
 
-pub refused_taken : (settings : Settings) (radar slot : ℕ) (b : Bias) (old new : Progress) → (IsOpenChange settings (last_of old.log) radar slot → ⊥) → new.log ≡ old.log → new.counts ≡ record old.counts { refused = counted (old.counts.refused + 1) } → Takes settings (bias radar slot b) false old new
+unfoldable pub refused_taken : (settings : Settings) (radar slot : ℕ) (b : Bias) (old new : Progress) → (IsOpenChange settings (last_of old.log) radar slot → ⊥) → new.log ≡ old.log → new.counts ≡ record old.counts { refused = counted (old.counts.refused + 1) } → Takes settings (bias radar slot b) false old new
 refused_taken settings radar slot b old new closed log counts =
     record {
       added = None;
@@ -249,7 +249,7 @@ refused_taken settings radar slot b old new closed log counts =
         ∙ (λ i. record (counts_of tells items old.log) { refused = one i; malformed = faults i; old = olds i })
         ∙ ap (counts_of tells (items ++ item ∷ [])) (sym log)
 
-pub change_taken : (settings : Settings) (radar slot : ℕ) (b : Bias) (old new : Progress) → IsOpenChange settings (last_of old.log) radar slot → new.log ≡ appended old.log (Change radar slot b) → new.counts ≡ record old.counts { biases = counted (old.counts.biases + 1) } → Takes settings (bias radar slot b) false old new
+unfoldable pub change_taken : (settings : Settings) (radar slot : ℕ) (b : Bias) (old new : Progress) → IsOpenChange settings (last_of old.log) radar slot → new.log ≡ appended old.log (Change radar slot b) → new.counts ≡ record old.counts { biases = counted (old.counts.biases + 1) } → Takes settings (bias radar slot b) false old new
 change_taken settings radar slot b old new is_open log counts =
     record {
       added = Some event;

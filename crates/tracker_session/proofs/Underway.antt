@@ -35,15 +35,17 @@ abbrev pub Stands : Settings → Bool → ℕ → (History → Type 0) → List 
 Stands settings tells start P items run editions = (u : IsUnderway settings tells start items run editions) × P u.progress.log
 
 -- before any item
-pub begins : (settings : Settings) (tells : Bool) (start : ℕ) (run : Run) (editions : Editions) → Keeps run (record { log = empty_log start; counts = no_counts tells }) → run.newest.items ≡ [] → AreGiven settings (empty_log start) editions → IsUnderway settings tells start [] run editions
-begins settings tells start run editions keeps none given = record {
-  progress = record { log = empty_log start; counts = no_counts tells };
-  keeps = keeps;
-  legal = empty_legal settings start editions given;
-  given = given;
-  stands = record { log = refl; counts = refl };
-  newest = none ∙ sym (drop_all editions.cut [] (omega arith));
-}
+pub begins : (settings : Settings) (tells : Bool) (start : ℕ) (P : History → Type 0) (run : Run) (editions : Editions) → Keeps run (record { log = empty_log start; counts = no_counts tells }) → run.newest.items ≡ [] → AreGiven settings (empty_log start) editions → P (empty_log start) → Stands settings tells start P [] run editions
+begins settings tells start P run editions keeps none given p = (
+  record {
+    progress = record { log = empty_log start; counts = no_counts tells };
+    keeps = keeps;
+    legal = empty_legal settings start editions given;
+    given = given;
+    stands = record { log = refl; counts = refl };
+    newest = none ∙ sym (drop_all editions.cut [] (omega arith));
+  },
+  p)
 
 module _ (settings : Settings) (tells : Bool) (start : ℕ) (items : List Item) (run run' : Run) (editions : Editions) (u : IsUnderway settings tells start items run editions) (item : Item) (shown : Bool) (m : Moves settings item shown u.progress run run') where
   stands_pushed : StandsFor m.after settings tells start (items ++ item ∷ [])
@@ -60,15 +62,17 @@ module _ (settings : Settings) (tells : Bool) (start : ℕ) (items : List Item) 
       ∙ ap (λ (l : History). drop editions.cut l.events) (sym m.takes.has.log)
 
   -- what is added gives no edition
-  pub silent_on : shows m.takes.added ≡ false → IsUnderway settings tells start (items ++ item ∷ []) run' editions
-  silent_on silent = record {
-    progress = m.after;
-    keeps = m.keeps;
-    legal = m.legal u.legal;
-    given = subst (λ (l : History). AreGiven settings l editions) (sym m.takes.has.log) (given_silent settings u.progress.log item m.takes.added editions m.takes.has.adds silent u.given);
-    stands = stands_pushed;
-    newest = newest_here;
-  }
+  pub silent_on : (P : History → Type 0) → P m.after.log → shows m.takes.added ≡ false → Stands settings tells start P (items ++ item ∷ []) run' editions
+  silent_on P p silent = (
+    record {
+      progress = m.after;
+      keeps = m.keeps;
+      legal = m.legal u.legal;
+      given = subst (λ (l : History). AreGiven settings l editions) (sym m.takes.has.log) (given_silent settings u.progress.log item m.takes.added editions m.takes.has.adds silent u.given);
+      stands = stands_pushed;
+      newest = newest_here;
+    },
+    p)
 
   module _ (is : shows m.takes.added ≡ true) where
     -- an edition comes next
@@ -76,12 +80,14 @@ module _ (settings : Settings) (tells : Bool) (start : ℕ) (items : List Item) 
     has_next = next_after settings u.progress.log m.after.log item m.takes.added run'.newest.items editions m.takes.has.adds is m.takes.has.log (m.legal u.legal) u.given newest_here
 
     -- it was given, and its events were let go
-    pub shown_on : (last : Run) (given : Editions) → AreGiven settings m.after.log given → last.log ≡ run'.log → last.counts ≡ run'.counts → last.newest.items ≡ [] → IsUnderway settings tells start (items ++ item ∷ []) last given
-    shown_on last given are log counts none = record {
-      progress = m.after;
-      keeps = record { log = log ∙ m.keeps.log; counts = counts ∙ m.keeps.counts };
-      legal = m.legal u.legal;
-      given = are;
-      stands = stands_pushed;
-      newest = none ∙ sym (drop_all given.cut m.after.log.events (omega (arith, are.cut_is, cut_is settings m.after.log run'.newest.items editions has_next)));
-    }
+    pub shown_on : (P : History → Type 0) → P m.after.log → (last : Run) (given : Editions) → AreGiven settings m.after.log given → last.log ≡ run'.log → last.counts ≡ run'.counts → last.newest.items ≡ [] → Stands settings tells start P (items ++ item ∷ []) last given
+    shown_on P p last given are log counts none = (
+      record {
+        progress = m.after;
+        keeps = record { log = log ∙ m.keeps.log; counts = counts ∙ m.keeps.counts };
+        legal = m.legal u.legal;
+        given = are;
+        stands = stands_pushed;
+        newest = none ∙ sym (drop_all given.cut m.after.log.events (omega (arith, are.cut_is, cut_is settings m.after.log run'.newest.items editions has_next)));
+      },
+      p)

@@ -1,4 +1,5 @@
 use Rattle.std.proofs.Common.{rules, ◌≡◌, ◌∙◌, ◌<◌, ◌≤◌, ap, sym, subst, ℕ, ◌+◌, List, [], ◌∷◌, ◌++◌, length, get_or, take, false}
+use Rattle.std.specs.List.{concat}
 use Rattle.recording.specs.Answers.{item_of, items_of}
 use Rattle.recording.specs.declared.header.Header.TheVariants.{Second}
 use Rattle.recording.specs.declared.item.Item.{Item as Held}
@@ -8,7 +9,7 @@ use Rattle.admission_log.specs.declared.events.Event.{Event}
 use Rattle.admission_log.specs.Histories.{History}
 use Rattle.tracker_session.specs.declared.editions.Editions.{Editions}
 use Rattle.tracker_session.specs.declared.taking.Run.{Run}
-use Rattle.tracker_session.specs.Counting.{counts_of}
+use Rattle.tracker_session.specs.Counting.{counted, counts_of}
 use Rattle.tracker_session.specs.Editions.{AreGiven, HasNext, IsNewest}
 use Rattle.tracker_session.specs.Replay.{IsReplayLog, log_with}
 use Rattle.tracker_session.specs.Taking.{shows}
@@ -27,7 +28,7 @@ pub loop-item-init : goal.loop-item-init
 loop-item-init g c =
     let settings = c.args.settings.now in
     let start = c.args.reading.now.start in
-    (begins settings false start c.new-run.run c.args.editions c.new-run.ensures.keeps c.new-run.ensures.newest c.requires.given, none_counted settings start)
+    begins settings false start (λ log. AreCounted settings log 0 0) _ c.args.editions c.new-run.ensures.keeps c.new-run.ensures.newest c.requires.given (none_counted settings start)
 
 pub take-requires : goal.take-requires
 take-requires g c =
@@ -72,16 +73,16 @@ loop-item-preserved g c =
           let own = subst (λ (z : Settings × List Event). HasNext z.0 m.after.log z.1 c.loop-item.editions) (λ j. (sym eq j, sym w.newest.ensures j)) has in
           let newest = subst (λ (s : Settings). IsNewest s m.after.log edition) eq (w.in_ok-edition.ensures.newest m.after.log own) in
           let given = subst (λ (s : Settings). AreGiven s m.after.log w.advance.new.self) eq (w.in_ok-edition.ensures.given m.after.log own) in
-          let counted = shown_counted settings u.progress.log (item_of d) t.added t.has.adds o n inv.1 edition shown (subst (λ (l : History). IsNewest settings l edition) t.has.log newest) in
-          let on : Stands settings false start P (take i items ++ item_of d ∷ []) w.forget.new.self w.advance.new.self = (
-              shown_on settings false start (take i items) c.loop-item.run c.take.new.self c.loop-item.editions u (item_of d) c.in_ok-take.field-0 m shown w.forget.new.self w.advance.new.self given w.forget.ensures.log w.forget.ensures.counts w.forget.ensures.newest,
-              counted_as settings (log_with u.progress.log t.added) m.after.log _ _ _ _ t.has.log ? ? counted) in
+          let both = shown_counted settings u.progress.log (item_of d) t.added t.has.adds o n inv.1 edition shown (subst (λ (l : History). IsNewest settings l edition) t.has.log newest) in
+          let octets : w.more_octets.result ≡ counted (o + length (concat edition.datagrams)) = search rules in
+          let certs : w.more.result ≡ counted (n + length edition.certs) = search rules in
+          let all = counted_as settings (log_with u.progress.log t.added) m.after.log _ _ _ _ t.has.log (w.octets-is ∙ octets) (w.certificates-is ∙ certs) both in
+          let on = shown_on settings false start (take i items) c.loop-item.run c.take.new.self c.loop-item.editions u (item_of d) c.in_ok-take.field-0 m shown P all w.forget.new.self w.advance.new.self given w.forget.ensures.log w.forget.ensures.counts w.forget.ensures.newest in
           subst (λ (z : List Item × (Run × Editions)). Stands settings false start P z.0 z.1.0 z.1.1) (λ j. (sym longer j, (sym w.run-is j, sym w.editions-is j))) on)
       | else-branch w ↦ (
           let silent : shows t.added ≡ false = t.shown_is ∙ w.if-branch.false in
-          let on : Stands settings false start P (take i items ++ item_of d ∷ []) c.take.new.self c.loop-item.editions = (
-              silent_on settings false start (take i items) c.loop-item.run c.take.new.self c.loop-item.editions u (item_of d) c.in_ok-take.field-0 m silent,
-              counted_as settings (log_with u.progress.log t.added) m.after.log _ _ _ _ t.has.log w.octets-is w.certificates-is (silent_counted settings u.progress.log (item_of d) t.added t.has.adds o n inv.1 silent)) in
+          let all = counted_as settings (log_with u.progress.log t.added) m.after.log _ _ _ _ t.has.log w.octets-is w.certificates-is (silent_counted settings u.progress.log (item_of d) t.added t.has.adds o n inv.1 silent) in
+          let on = silent_on settings false start (take i items) c.loop-item.run c.take.new.self c.loop-item.editions u (item_of d) c.in_ok-take.field-0 m P all silent in
           subst (λ (z : List Item × (Run × Editions)). Stands settings false start P z.0 z.1.0 z.1.1) (λ j. (sym longer j, (sym w.run-is j, sym w.editions-is j))) on)
     ]
 

@@ -35,7 +35,14 @@ rest_is xs i d lt is = rest_at xs i d lt ∙ ap (λ x. item_of x ∷ drop (i + 1
 
 pub loop-item-init : goal.loop-item-init
 loop-item-init g c =
-    (begins c.args.settings.now c.args.tells_biases c.args.reading.now.start c.new-run.run c.args.editions c.new-run.ensures.keeps c.new-run.ensures.newest c.requires.given, c.requires.output, c.requires.prices, λ end new f. f)
+    let state = g.H.Host.state in
+    let settings = c.args.settings.now in
+    let start = c.args.reading.now.start in
+    let items = items_of c.args.reading.now.items.items in
+    let script = λ (log : History). items_script settings (ending c.args.tells_biases c.args.reading.now.fault items) log items in
+    let P = GoesOn script (script (empty_log start)) (state c.args.host.now) (state c.args.host.now) in
+    let on = begins settings c.args.tells_biases start P _ c.args.editions c.new-run.ensures.keeps c.new-run.ensures.newest c.requires.given (λ end new f. f) in
+    (on.0, c.requires.output, c.requires.prices, on.1)
 
 pub take-requires : goal.take-requires
 take-requires g c =
@@ -147,11 +154,10 @@ loop-item-preserved g c =
           let given = subst (λ (s : Settings). AreGiven s m.after.log w.next.new.self) eq (w.in_ok-octets.ensures.given m.after.log own) in
           let wrote = w.in_ok-write_edition.ensures.written in
           let behind = items_script settings next m.after.log (drop (i + 1) items) in
-          let on : Stands settings tells begin P (take i items ++ item_of d ∷ []) w.forget.new.self w.next.new.self = (
-              shown_on settings tells begin (take i items) c.loop-item.run c.take.new.self c.loop-item.editions u (item_of d) c.in_ok-take.field-0 m shown w.forget.new.self w.next.new.self given w.forget.ensures.log w.forget.ensures.counts w.forget.ensures.newest,
-              λ end last f. inv.3 end last
-                  (shown_item settings next u.progress m.after (item_of d) (drop (i + 1) items) (drop i items) rest t.added t.has end host last octets.output.items octets.prices.items shown newest.output newest.prices
-                  (edition_written octets.output.items octets.prices.items behind end host new last wrote (subst (λ (h : HostState). Follows behind end h last) same f)))) in
+          let goes : P m.after.log = λ end last f. inv.3 end last
+              (shown_item settings next u.progress m.after (item_of d) (drop (i + 1) items) (drop i items) rest t.added t.has end host last octets.output.items octets.prices.items shown newest.output newest.prices
+              (edition_written octets.output.items octets.prices.items behind end host new last wrote (subst (λ (h : HostState). Follows behind end h last) same f))) in
+          let on = shown_on settings tells begin (take i items) c.loop-item.run c.take.new.self c.loop-item.editions u (item_of d) c.in_ok-take.field-0 m shown P goes w.forget.new.self w.next.new.self given w.forget.ensures.log w.forget.ensures.counts w.forget.ensures.newest in
           let all = subst (λ (z : List Item × (Run × Editions)). Stands settings tells begin P z.0 z.1.0 z.1.1) (λ j. (sym longer j, (sym w.run-is j, sym w.editions-is j))) on in
           (all.0,
           subst (λ (h : HostState). IsBoundFor ways.Write h places.Output) (sym same) (still_open places.Output _ _ wrote.mid new wrote.second.touches (still_open places.Output _ _ host wrote.mid wrote.first.touches inv.1)),
@@ -160,10 +166,9 @@ loop-item-preserved g c =
       | else-branch w ↦ (
           let same : now ≡ host = ap state w.host-is in
           let silent : shows t.added ≡ false = t.shown_is ∙ w.if-branch.false in
-          let on : Stands settings tells begin P (take i items ++ item_of d ∷ []) c.take.new.self c.loop-item.editions = (
-              silent_on settings tells begin (take i items) c.loop-item.run c.take.new.self c.loop-item.editions u (item_of d) c.in_ok-take.field-0 m silent,
-              λ end last f. inv.3 end last
-                  (silent_item settings next u.progress m.after (item_of d) (drop (i + 1) items) (drop i items) rest t.added t.has end host last silent (subst (λ (h : HostState). Follows (items_script settings next m.after.log (drop (i + 1) items)) end h last) same f))) in
+          let goes : P m.after.log = λ end last f. inv.3 end last
+              (silent_item settings next u.progress m.after (item_of d) (drop (i + 1) items) (drop i items) rest t.added t.has end host last silent (subst (λ (h : HostState). Follows (items_script settings next m.after.log (drop (i + 1) items)) end h last) same f)) in
+          let on = silent_on settings tells begin (take i items) c.loop-item.run c.take.new.self c.loop-item.editions u (item_of d) c.in_ok-take.field-0 m P goes silent in
           let all = subst (λ (z : List Item × (Run × Editions)). Stands settings tells begin P z.0 z.1.0 z.1.1) (λ j. (sym longer j, (sym w.run-is j, sym w.editions-is j))) on in
           (all.0, subst (λ (h : HostState). IsBoundFor ways.Write h places.Output) (sym same) inv.1, subst (λ (h : HostState). IsBoundFor ways.Write h places.Prices) (sym same) inv.2, all.1))
     ]

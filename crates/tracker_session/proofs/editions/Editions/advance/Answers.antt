@@ -33,7 +33,7 @@ returns-clause-newest g c log h =
     let editions = c.args.self.now in
     let settings = editions.engine.settings in
     let stands = c.in_ok-number.ensures.stands log h in
-    newest_is settings log c.args.newest.now editions h c.in_ok-number.field-0.0 c.in_ok-edition.field-0.edition c.in_ok-number.ensures.number (c.in_ok-edition.ensures.edition settings log editions.cut stands) (c.in_ok-edition.ensures.whole settings log editions.cut stands)
+    newest_is settings log c.args.newest.now editions h c.in_ok-number.number c.in_ok-edition.field-0.edition c.in_ok-number.ensures.number (c.in_ok-edition.ensures.edition settings log editions.cut stands) (c.in_ok-edition.ensures.whole settings log editions.cut stands)
 
 pub returns-clause-given : goal.returns-clause-given
 returns-clause-given g c log h =
@@ -41,7 +41,7 @@ returns-clause-given g c log h =
     let settings = editions.engine.settings in
     let newest = c.args.newest.now in
     let stands = c.in_ok-number.ensures.stands log h in
-    let cut : c.in_ok-number.field-0.1 ≡ length log.events = c.in_ok-number.ensures.cut ∙ whole_cut settings log newest editions h in
+    let cut : c.in_ok-number.cut ≡ length log.events = c.in_ok-number.ensures.cut ∙ whole_cut settings log newest editions h in
     let shown = c.into_vec.ensures ∙ c.in_ok-edition.ensures.shown settings log editions.cut stands in
     let there = shown ∙ shown_here settings log newest editions h ∙ ap (shown_at settings log) (sym cut) in
     let after = c.show.ensures.stands settings log (length log.events) editions.cut stands there in

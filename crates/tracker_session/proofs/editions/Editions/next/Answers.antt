@@ -32,7 +32,7 @@ returns-clause-newest g c log h =
     let settings = editions.engine.settings in
     let newest = c.args.newest.now in
     let stands = c.in_ok-number.ensures.stands log h in
-    let number = c.in_ok-number.field-0.0 in
+    let number = c.in_ok-number.number in
     let n = c.in_ok-number.ensures.number in
     record {
       output = picture_output settings log newest editions h number c.in_ok-datagrams.field-0.datagrams c.in_ok-output.output.items n (c.in_ok-datagrams.ensures.datagrams settings log editions.cut stands) (c.in_ok-output.ensures ∙ ap concat c.as_slice.ensures);
@@ -45,7 +45,7 @@ returns-clause-given g c log h =
     let settings = editions.engine.settings in
     let newest = c.args.newest.now in
     let stands = c.in_ok-number.ensures.stands log h in
-    let cut : c.in_ok-number.field-0.1 ≡ length log.events = c.in_ok-number.ensures.cut ∙ whole_cut settings log newest editions h in
+    let cut : c.in_ok-number.cut ≡ length log.events = c.in_ok-number.ensures.cut ∙ whole_cut settings log newest editions h in
     let shown = c.into_vec.ensures ∙ c.in_ok-datagrams.ensures.shown settings log editions.cut stands in
     let there = shown ∙ shown_here settings log newest editions h ∙ ap (shown_at settings log) (sym cut) in
     let after = c.show.ensures.stands settings log (length log.events) editions.cut stands there in

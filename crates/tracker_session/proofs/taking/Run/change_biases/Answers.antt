@@ -5,8 +5,8 @@ use Rattle.admission_log.specs.Histories.{low_at}
 use Rattle.tracker_session.proofs.Moving.{change_on, refused_on}
 use Rattle.tracker_session.proofs.taking.Run.change_biases.Goals as goal
 
-pub returns-in-Ok : goal.returns-in-Ok
-returns-in-Ok c before keeps =
+pub returns-in_ok-push-in-Ok : goal.returns-in_ok-push-in-Ok
+returns-in_ok-push-in-Ok c before keeps =
     let old = c.args.self.now in
     let is_open : IsOpenChange c.args.settings.now old.log.last c.args.radar c.args.slot = search rules in
     let newest : c.push.new.self.items ≡ old.newest.items ++ Bias c.args.radar c.args.slot c.args.bias ∷ [] = search rules in

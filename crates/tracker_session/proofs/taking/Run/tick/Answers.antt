@@ -3,8 +3,8 @@ use Rattle.admission_log.specs.declared.events.Event.TheVariants.{Tick}
 use Rattle.tracker_session.proofs.Moving.{old_on, tick_on}
 use Rattle.tracker_session.proofs.taking.Run.tick.Goals as goal
 
-pub returns-in-Ok : goal.returns-in-Ok
-returns-in-Ok c settings before keeps =
+pub returns-in_ok-push-in-Ok : goal.returns-in_ok-push-in-Ok
+returns-in_ok-push-in-Ok c settings before keeps =
     let old = c.args.self.now in
     let later : old.log.last < c.args.time = search rules in
     let newest : c.push.new.self.items ≡ old.newest.items ++ Tick c.args.time ∷ [] = search rules in
