@@ -75,8 +75,8 @@ loop-item-preserved g c =
           let edition = w.in_ok-edition.edition in
           let newest = subst (λ (s : Settings). IsNewest s run'.log edition) eq w.in_ok-edition.ensures.newest in
           let given = subst (λ (s : Settings). AreGiven s run'.log w.advance.new.self) eq w.in_ok-edition.ensures.given in
-          let octets : w.more_octets.result ≡ counted (o + length (concat edition.datagrams)) = search rules in
-          let certs : w.more.result ≡ counted (n + length edition.certs) = search rules in
+          let octets = w.more_octets-octets.ensures ∙ ap (λ (d : List (List ℕ)). counted (o + length (concat d))) w.as_slice.ensures in
+          let certs = w.more-certificates.ensures ∙ ap (λ (k : ℕ). counted (n + k)) w.len.ensures in
           let shown = shown_counted settings run.log (item_of d) t.added t.has.adds o n inv.counted_are edition (t.shown_is ∙ w.if-branch.true) (subst (λ (l : History). IsNewest settings l edition) t.has.log newest) in
           record {
             legal = legal;

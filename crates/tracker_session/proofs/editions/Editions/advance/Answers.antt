@@ -55,7 +55,7 @@ returns-clause-given g c =
     let built = c.in_ok-edition.ensures.edition settings log editions.cut settled in
     let n : c.in_ok-number.number ≡ editions.number + 1 = search rules in
     let shown = c.into_vec.ensures ∙ c.in_ok-edition.ensures.shown settings log editions.cut settled ∙ shown_here settings log editions c.requires ∙ ap (shown_at settings log) (sym built.cut) in
-    let tracks = c.len.ensures ∙ ap length (c.in_ok-edition.ensures.shown settings log editions.cut settled) in
+    let tracks = c.len-self.ensures ∙ ap length (c.in_ok-edition.ensures.shown settings log editions.cut settled) in
     let stands = c.show.ensures settings log (length log.events) editions.cut settled shown in
-    given_next settings log editions c.requires (record { engine = c.show.new.self; number = c.in_ok-number.number; cut = length c.events-events.result.now; tracks = c.len.result }) n (ap length c.events-events.ensures.value) tracks
+    given_next settings log editions c.requires (record { engine = c.show.new.self; number = c.in_ok-number.number; cut = length c.events-events.result.now; tracks = c.len-self.result }) n (ap length c.events-events.ensures.value) tracks
     (subst (λ (n : ℕ). StandsFor settings log (length log.events) n c.show.new.self) built.cut stands)
