@@ -1,6 +1,6 @@
 -- The certificates of a log are so many, whatever prices prove them: those of a slot stand one for each component, in rising key of their
 -- least plots, and the component of a plot has one least plot.
-use Rattle.std.proofs.Common.{◌≡◌, ◌∙◌, ap, sym, refl, subst, inl, inr, arith, ℕ, ◌+◌, List, [], ◌∷◌, ◌++◌, length, map, length-append, suc, cond, Bool, true, false}
+use Rattle.std.proofs.Common.{◌≡◌, ◌⊎◌, ◌∙◌, ap, sym, refl, subst, inl, inr, arith, ℕ, ◌+◌, List, [], ◌∷◌, ◌++◌, length, map, length-append, suc, cond, Bool, true, false}
 use Rattle.std.specs.Prelude.{Contains, Option, filter, ◌==◌}
 use Rattle.std.specs.Cmp.{IsTotalOrder}
 use Rattle.std.specs.List.{AllByRecursion, AllZip, flat_map}

@@ -101,4 +101,6 @@ as_replayed seed aircraft seconds late told counts totals settings output fault 
     let c = told'.totals_are.counted_are in
     let one = outputs_same settings r.log c.output output (subst (λ (l : History). IsOutput settings l c.output) log c.output_is) r.output_is in
     let tells : tells_biases octets ≡ false = no_biases seed aircraft seconds late in
-    (told'.counts_are ∙ (λ i. counts_of (tells (~ i)) (same.2 (~ i)) (log i)) ∙ sym r.counts_are, c.octets_are ∙ ap (λ (o : List ℕ). counted (length o)) one, same.3)
+    let told_is = sym tells in
+    let items_are = sym same.2 in
+    (told'.counts_are ∙ (λ i. counts_of (told_is i) (items_are i) (log i)) ∙ sym r.counts_are, c.octets_are ∙ ap (λ (o : List ℕ). counted (length o)) one, same.3)

@@ -1,7 +1,7 @@
 -- The radars of a scene as settings.
-use Rattle.std.proofs.Common.{◌≡◌, ◌∙◌, ap, sym, ℕ, zero, suc, ◌+◌, ◌<◌, ◌≤◌, ℤ, pos, List, [], ◌∷◌, ◌++◌, length, map, take, get_or, map-append, arith}
+use Rattle.std.proofs.Common.{◌≡◌, ◌∙◌, ap, sym, ℕ, zero, suc, ◌+◌, ◌<◌, ◌≤◌, ℤ, pos, List, [], ◌∷◌, ◌++◌, length, map, take, get_or, arith}
 use Rattle.std.specs.Prelude.{slice_index_or, unsigned_abs}
-use Rattle.std.proofs.lemmas.List.{length-map, take_more}
+use Rattle.std.proofs.lemmas.List.{length-map, map-append, take_more}
 use Rattle.plot_geometry.specs.declared.radars.RadarSettings.{RadarSettings}
 use Rattle.admission_log.specs.Sources.{HaveOwnSources}
 use Rattle.scene_gen.specs.declared.radars.SceneRadar.{SceneRadar}

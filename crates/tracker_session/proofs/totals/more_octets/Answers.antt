@@ -1,4 +1,4 @@
-use Rattle.std.proofs.Common.{rules, ◌≡◌, ◌<◌, ◌∙◌, ap, sym, ℕ, ◌+◌, List, [], ◌∷◌, ◌++◌, length, length-append, take, append-nil, arith}
+use Rattle.std.proofs.Common.{rules, ◌≡◌, ◌<◌, ◌∙◌, ap, sym, ℕ, ◌+◌, List, [], ◌∷◌, ◌++◌, length, length-append, get_or, take, append-nil, arith}
 use Rattle.std.specs.List.{concat}
 use Rattle.std.proofs.lemmas.List.{take_more}
 use Rattle.std.proofs.lemmas.List.Folds.{concat-append}
@@ -12,7 +12,15 @@ more_taken xs i x here is =
     ap length grown ∙ length-append (concat (take i xs)) x
 
 pub loop-datagram-init : goal.loop-datagram-init
-loop-datagram-init c = ?
+loop-datagram-init c = omega (arith, c.ranges.count.fits)
 
 pub loop-datagram-preserved : goal.loop-datagram-preserved
-loop-datagram-preserved c = ?
+loop-datagram-preserved c =
+    let xs = c.args.datagrams.now in
+    let i = c.loop-datagram.datagram-index in
+    let x = c.datagram-item.result in
+    let so_far = length (concat (take i xs)) in
+    let sum : c.args.count + so_far + length x ≡ c.args.count + length (concat (take (i + 1) xs)) = omega (arith, more_taken xs i x c.loop-datagram-test.true c.datagram-item.is) in
+    let before = c.loop-datagram.invariant in
+    let size = c.len.ensures in
+    c.more-octets.ensures ∙ (λ j. counted (before j + size j)) ∙ counted_more (c.args.count + so_far) (length x) ∙ ap counted sum

@@ -74,8 +74,8 @@ loop-item-preserved g c =
           let newest = subst (λ (s : Settings). IsNewest s m.after.log edition) eq (w.in_ok-edition.ensures.newest m.after.log own) in
           let given = subst (λ (s : Settings). AreGiven s m.after.log w.advance.new.self) eq (w.in_ok-edition.ensures.given m.after.log own) in
           let both = shown_counted settings u.progress.log (item_of d) t.added t.has.adds o n inv.1 edition shown (subst (λ (l : History). IsNewest settings l edition) t.has.log newest) in
-          let octets : w.more_octets-octets.result ≡ counted (o + length (concat edition.datagrams)) = search rules in
-          let certs : w.more-certificates.result ≡ counted (n + length edition.certs) = search rules in
+          let octets = w.more_octets-octets.ensures ∙ ap (λ (d : List (List ℕ)). counted (o + length (concat d))) w.as_slice.ensures in
+          let certs = w.more-certificates.ensures ∙ ap (λ (k : ℕ). counted (n + k)) w.len.ensures in
           let all = counted_as settings (log_with u.progress.log t.added) m.after.log _ _ _ _ t.has.log (w.octets-is ∙ octets) (w.certificates-is ∙ certs) both in
           let on = shown_on settings false start (take i items) c.loop-item.run c.take.new.self c.loop-item.editions u (item_of d) c.in_ok-take.field-0 m shown P all w.forget.new.self w.advance.new.self given w.forget.ensures.log w.forget.ensures.counts w.forget.ensures.newest in
           subst (λ (z : List Item × (Run × Editions)). Stands settings false start P z.0 z.1.0 z.1.1) (λ j. (sym longer j, (sym w.run-is j, sym w.editions-is j))) on)
