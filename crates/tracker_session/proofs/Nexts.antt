@@ -10,17 +10,14 @@ use Rattle.admission_log.specs.Histories.{History, appended, first, tick_in}
 use Rattle.admission_log.specs.Legality.{IsLegal}
 use Rattle.edition_form.specs.declared.edition.Edition.{Edition}
 use Rattle.price_form.specs.Certificates.{IsCert}
-use Rattle.edition_form.specs.Certificates.{AreLogCertificates}
 use Rattle.edition_form.specs.Datagrams.{AreDatagramsOf, shown_at, shown_of}
 use Rattle.edition_form.specs.Editions.{IsEdition}
-use Rattle.edition_form.specs.Prices.{ArePricesOf, edition_octets}
+use Rattle.edition_form.specs.Prices.{ArePricesOf}
 use Rattle.std.specs.List.{concat}
 use Rattle.tracker_engine.specs.Engines.{Continues, EngineState, StandsFor}
 use Rattle.tracker_engine.specs.Engines as engines
 use Rattle.tracker_session.specs.declared.editions.Editions.{Editions}
-use Rattle.trk_base.specs.declared.memory.NoMemory.{NoMemory}
-use Rattle.tracker_session.specs.declared.editions.EditionOctets.{EditionOctets}
-use Rattle.tracker_session.specs.Editions.{AreGiven, AreNewest, HasNext, IsNewest}
+use Rattle.tracker_session.specs.Editions.{AreGiven, HasNext, IsNewest}
 use Rattle.recording.specs.Items.{Item, datagram, tick, bias}
 use Rattle.tracker_session.specs.Taking.{shows}
 use Rattle.tracker_session.proofs.Logs.{delivery_kinds}
@@ -91,6 +88,18 @@ module _ (settings : Settings) (log : History) (editions : Editions) (h : HasNex
     whole = whole;
   }
 
+  pub picture_output : (number : ℕ) (datagrams : List (List ℕ)) (octets : List ℕ) → number ≡ editions.number + 1 → AreDatagramsOf settings log editions.cut number datagrams → octets ≡ concat datagrams → IsEditionAt settings log (newest log) octets
+  picture_output number datagrams octets n are whole = record {
+    datagrams = datagrams;
+    are = subst (λ (l : History). AreDatagramsOf settings l (cut_before log (length log.events)) (length (cuts_of log)) datagrams) (sym (first_all log))
+        (subst (λ (before : ℕ). AreDatagramsOf settings log before (length (cuts_of log)) datagrams) (sym before_is)
+        (subst (λ (m : ℕ). AreDatagramsOf settings log editions.cut m datagrams) (n ∙ sym number_is) are));
+    whole = whole;
+  }
+
+  pub picture_prices : (number : ℕ) (octets : List ℕ) → number ≡ editions.number + 1 → ArePricesOf settings log (number, length log.events) octets → ArePricesOf settings log (newest log) octets
+  picture_prices number octets n are = subst (λ (m : ℕ). ArePricesOf settings log (m, length log.events) octets) (n ∙ sym number_is) are
+
   -- ---- shown
 
   if_else : {A : Type 0} (b : Bool) (x y : A) → b ≡ false → (if b then x else y) ≡ y
@@ -116,24 +125,6 @@ newest_output settings log edition octets h whole = record {
   are = subst (λ (l : History). AreDatagramsOf settings l (cut_before log (length log.events)) (length (cuts_of log)) edition.datagrams) (sym (first_all log)) h.is.datagrams;
   whole = whole;
 }
-
-newest_prices : (settings : Settings) (log : History) (edition : Edition) (octets : List ℕ) → IsNewest settings log edition → octets ≡ edition_octets edition.number edition.cut edition.certs → ArePricesOf settings log (newest log) octets
-newest_prices settings log edition octets h whole = record {
-  certs = edition.certs;
-  certificates = subst (λ (l : History). AreLogCertificates settings l edition.certs) (sym (first_all log)) h.is.certs;
-  octets_are = whole ∙ (λ i. edition_octets (h.is.number_is i) (h.is.cut i) edition.certs);
-}
-
-newest_octets : (settings : Settings) (log : History) (edition : Edition) (octets : EditionOctets) → IsNewest settings log edition → octets.output.items ≡ concat edition.datagrams → octets.prices.items ≡ edition_octets edition.number edition.cut edition.certs → AreNewest settings log octets
-newest_octets settings log edition octets h output prices = record {
-  output = newest_output settings log edition octets.output.items h output;
-  prices = newest_prices settings log edition octets.prices.items h prices;
-}
-
--- .. where memory isn't wanting
-pub newest_told : (settings : Settings) (log : History) (edition : Edition) (told : Result EditionOctets NoMemory) → IsNewest settings log edition → IfOk told (λ o. o.output.items ≡ concat edition.datagrams) → IfOk told (λ o. o.prices.items ≡ edition_octets edition.number edition.cut edition.certs) → IfOk told (AreNewest settings log)
-newest_told settings log edition (Ok octets) h output prices = newest_octets settings log edition octets h output prices
-newest_told settings log edition (Err e) h output prices = tt
 
 -- a log without events is legal
 pub empty_legal : (settings : Settings) (start : ℕ) (editions : Editions) → AreGiven settings (empty_log start) editions → IsLegal settings (empty_log start)
