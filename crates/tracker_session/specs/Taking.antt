@@ -3,7 +3,6 @@ use Rattle.std.specs.Prelude.{◌≡◌, ℕ, Bool, false, List, [], ◌∷◌, 
 use Rattle.recording.specs.Items.{Item}
 use Rattle.admission_log.specs.declared.settings.Settings.{Settings}
 use Rattle.admission_log.specs.declared.events.Event.{Event}
-use Rattle.admission_log.specs.Histories.{History}
 use Rattle.tracker_session.specs.declared.taking.Run.{Run}
 use Rattle.tracker_session.specs.Counting.{counts_of, is_tick_taken}
 use Rattle.tracker_session.specs.Replay.{Adds, IsReplayLog, log_with}
