@@ -7,7 +7,7 @@ use Rattle.std.specs.List.{AllByRecursion, AllZip, flat_map}
 use Rattle.std.specs.List.Sorted.{IsStrictlySortedBy}
 use Rattle.std.specs.Ordering.{ordering_reverse}
 use Rattle.std.specs.declared.cmp.Ordering.{Ordering}
-use Rattle.std.specs.declared.cmp.Ordering.TheVariants.{Less, Equal, Greater}
+use Rattle.std.specs.declared.cmp.Ordering.TheVariants.{Less, Greater}
 use Rattle.std.proofs.lemmas.Bool.{eqb-true}
 use Rattle.std.proofs.lemmas.List.{length-map}
 use Rattle.price_form.specs.declared.certs.Cert.{Cert}
@@ -28,7 +28,6 @@ use Rattle.edition_form.specs.Folding.{slot_of_plot}
 use Rattle.plot_geometry.specs.Plots.{PlanePlot}
 use Rattle.track_life.specs.declared.settings.LifeSettings.{LifeSettings}
 use Rattle.track_life.specs.Tracks.{TrackState}
-use Rattle.trk_base.specs.declared.keys.Key.{Key}
 use Rattle.tracker_session.specs.Replay as replay
 use Rattle.tracker_session.specs.Replay.{AreCertificatesAt, editions_of, end_to_end}
 

@@ -1,5 +1,5 @@
 -- An exercise tells what a replay of the scene's recording under the scene's settings tells, and there is one.
-use Rattle.std.proofs.Common.{◌≡◌, ◌≤◌, ◌<◌, ◌^◌, ◌∙◌, ap, refl, sym, subst, arith, ℕ, ℤ, List, [], ◌∷◌, ◌++◌, length, map, get_or, drop, false}
+use Rattle.std.proofs.Common.{◌≡◌, ◌≤◌, ◌<◌, ◌^◌, ◌∙◌, ap, refl, sym, subst, arith, ℕ, ℤ, List, [], ◌∷◌, length, map, get_or, drop, false}
 use Rattle.std.specs.Prelude.{Option, Some, None, Ok}
 use Rattle.io_traits.specs.Host.{HostState}
 use Rattle.io_traits.specs.Places.{place_limit}

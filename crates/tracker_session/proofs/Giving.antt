@@ -1,5 +1,5 @@
 -- What the script of each command gives, by its definition.
-use Rattle.std.proofs.Common.{◌≡◌, ◌∙◌, ◌⊎◌, inl, inr, ap, refl, sym, arith, ℕ, List, [], ◌∷◌, length}
+use Rattle.std.proofs.Common.{◌≡◌, ◌∙◌, inl, inr, ap, refl, sym, arith, ℕ, List, [], ◌∷◌, length}
 use Rattle.std.specs.Prelude.{Option, None, Ok, Err, Result}
 use Rattle.std.proofs.lemmas.List.{take_all}
 use Rattle.io_traits.specs.declared.host.Place.{Place}
@@ -8,7 +8,7 @@ use Rattle.io_traits.specs.declared.host.Way.TheVariants as ways
 use Rattle.admission_log.specs.declared.settings.Settings as admission
 use Rattle.settings_text.specs.declared.faults.SettingsFault.{SettingsFault}
 use Rattle.settings_text.specs.Answers.{IsSettingsAnswer}
-use Rattle.session_script.specs.Scripts.{Binding, End, GetsNothing, Gives, StopsHere, opens, piece_for, read_of}
+use Rattle.session_script.specs.Scripts.{Binding, End, Gives, StopsHere, opens, piece_for, read_of}
 use Rattle.tracker_session.specs.Check.{CheckGives, check_script}
 use Rattle.tracker_session.specs.Commands.{CommandGives, script_of}
 use Rattle.tracker_session.specs.Counting.{counts_of}

@@ -12,7 +12,7 @@ use Rattle.admission_log.specs.declared.settings.Settings as admission
 use Rattle.admission_log.specs.declared.events.Event.{Event}
 use Rattle.admission_log.specs.Histories.{History}
 use Rattle.edition_form.specs.Prices.{ArePricesOf}
-use Rattle.session_script.specs.Scripts.{Binding, End, GetsFirst, GetsNothing, Gives, Script, StopsHere, ends, piece_for, writes}
+use Rattle.session_script.specs.Scripts.{Binding, End, GetsFirst, GetsNothing, Gives, Script, StopsHere, ends, piece_for}
 use Rattle.tracker_session.specs.Counting.{counts_of}
 use Rattle.tracker_session.specs.Inputs.{HasInput, tells_biases}
 use Rattle.tracker_session.specs.Replay.{Adds, AreOfAll, IsEditionAt, IsLogAfter, IsOutput, IsPrices, empty_log, log_with}

@@ -4,7 +4,6 @@ use Rattle.std.specs.Prelude.{Option, Some, None}
 use Rattle.recording.specs.Items.{Item, datagram, tick, bias}
 use Rattle.admission_log.specs.declared.settings.Settings.{Settings}
 use Rattle.admission_log.specs.declared.events.Event.{Event}
-use Rattle.admission_log.specs.declared.events.Event.TheVariants.{Tick}
 use Rattle.admission_log.specs.Histories.{History, appended}
 use Rattle.tracker_session.specs.Replay.{Adds, log_with, newest}
 use Rattle.tracker_session.specs.Taking.{shows}

@@ -1,4 +1,4 @@
-use Rattle.std.proofs.Common.{rules, ◌≡◌, sym, subst, Ok, Err}
+use Rattle.std.proofs.Common.{rules, sym, subst, Ok, Err}
 use Rattle.std.specs.Prelude.{string_bytes}
 use Rattle.session_script.specs.Scripts.{Follows, end_of}
 use Rattle.session_script.specs.declared.status.Status.TheVariants.{Memory}

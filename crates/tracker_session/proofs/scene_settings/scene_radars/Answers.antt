@@ -1,5 +1,4 @@
-use Rattle.std.proofs.Common.{rules, ◌≡◌, ◌∙◌, ap, arith, ℕ, List, [], ◌∷◌, ◌++◌, map, take}
-use Rattle.plot_geometry.specs.declared.radars.RadarSettings.{RadarSettings}
+use Rattle.std.proofs.Common.{rules, ◌≡◌, ◌∙◌, ap, arith, ℕ, [], ◌∷◌, ◌++◌, map, take}
 use Rattle.scene_gen.specs.Radars.{radars}
 use Rattle.settings_text.specs.Numbers.{radar_numbers}
 use Rattle.tracker_session.specs.SceneSettings.{scene_radar}
