@@ -16,11 +16,10 @@ use Rattle.session_script.specs.Scripts.{End, Follows, Script, ends, writes}
 use Rattle.session_script.specs.declared.status.Status.TheVariants.{Memory}
 use Rattle.session_script.proofs.Following.{after_pick, at_end, ended_so, gave_up}
 use Rattle.tracker_session.specs.declared.counts.Counts.{Counts}
-use Rattle.tracker_session.specs.Counting.{counts_of}
 use Rattle.edition_form.specs.Prices.{ArePricesOf}
-use Rattle.tracker_session.specs.Replay.{IsEditionAt, IsReplayLog, empty_log, log_with, newest}
+use Rattle.tracker_session.specs.Replay.{IsEditionAt, log_with, newest}
 use Rattle.tracker_session.specs.ReplayScript.{Added, EditionOf, IsEndAt, edition_script, end_at, items_script}
-use Rattle.tracker_session.specs.Taking.{HasTaken, Progress, StandsFor, Takes, shows}
+use Rattle.tracker_session.specs.Taking.{HasTaken, Progress, shows}
 
 -- ---- items as they lie in memory
 

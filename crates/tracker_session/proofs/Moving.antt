@@ -9,7 +9,7 @@ use Rattle.admission_log.specs.declared.events.Event.TheVariants.{Tick}
 use Rattle.admission_log.specs.declared.events.Event.TheVariants.{Bias as Change}
 use Rattle.admission_log.specs.Changes.{IsOpenChange}
 use Rattle.admission_log.specs.Deliveries.{IsDelivery, outcomes_in}
-use Rattle.admission_log.specs.Histories.{appended, last_of}
+use Rattle.admission_log.specs.Histories.{appended}
 use Rattle.admission_log.specs.Legality.{IsLegal}
 use Rattle.admission_log.specs.Summaries.{Summary, summary_of}
 use Rattle.tracker_session.specs.declared.counts.Counts.{Counts}

@@ -1,19 +1,18 @@
 -- A replay on its way: the log so far, of which the run keeps the summary and the newest events, and the editions that were given.
-use Rattle.std.proofs.Common.{◌≡◌, ◌∙◌, ap, sym, refl, subst, arith, ℕ, List, [], ◌∷◌, ◌++◌, length, drop, Bool, true, false}
+use Rattle.std.proofs.Common.{◌≡◌, ◌∙◌, ap, sym, refl, subst, arith, ℕ, List, [], ◌∷◌, ◌++◌, drop, Bool, true, false}
 use Rattle.std.proofs.lemmas.List.{drop_all}
 use Rattle.io_traits.specs.Host.{HostState}
 use Rattle.recording.specs.Items.{Item}
 use Rattle.session_script.specs.Scripts.{End, Follows, Script}
 use Rattle.admission_log.specs.declared.settings.Settings.{Settings}
-use Rattle.admission_log.specs.declared.events.Event.{Event}
 use Rattle.admission_log.specs.Histories.{History}
 use Rattle.admission_log.specs.Legality.{IsLegal}
 use Rattle.tracker_session.specs.declared.editions.Editions.{Editions}
 use Rattle.tracker_session.specs.declared.taking.Run.{Run}
 use Rattle.tracker_session.specs.Counting.{no_counts}
 use Rattle.tracker_session.specs.Editions.{AreGiven, HasNext}
-use Rattle.tracker_session.specs.Replay.{empty_log, last_cut, log_with}
-use Rattle.tracker_session.specs.Taking.{Keeps, Moves, Progress, StandsFor, Takes, shows}
+use Rattle.tracker_session.specs.Replay.{empty_log}
+use Rattle.tracker_session.specs.Taking.{Keeps, Moves, Progress, StandsFor, shows}
 use Rattle.tracker_session.proofs.Logs.{log_push}
 use Rattle.tracker_session.proofs.Nexts.{cut_is, empty_legal, given_silent, newest_more, next_after}
 use Rattle.tracker_session.proofs.Outputs.{last_within}
@@ -45,7 +44,8 @@ begins settings tells start P run editions keeps none given p = (
     stands = record { log = refl; counts = refl };
     newest = none ∙ sym (drop_all editions.cut [] (omega arith));
   },
-  p)
+  p,
+)
 
 module _ (settings : Settings) (tells : Bool) (start : ℕ) (items : List Item) (run run' : Run) (editions : Editions) (u : IsUnderway settings tells start items run editions) (item : Item) (shown : Bool) (m : Moves settings item shown u.progress run run') where
   stands_pushed : StandsFor m.after settings tells start (items ++ item ∷ [])
@@ -72,7 +72,8 @@ module _ (settings : Settings) (tells : Bool) (start : ℕ) (items : List Item) 
       stands = stands_pushed;
       newest = newest_here;
     },
-    p)
+    p,
+  )
 
   module _ (is : shows m.takes.added ≡ true) where
     -- an edition comes next
@@ -90,4 +91,5 @@ module _ (settings : Settings) (tells : Bool) (start : ℕ) (items : List Item) 
         stands = stands_pushed;
         newest = none ∙ sym (drop_all given.cut m.after.log.events (omega (arith, are.cut_is, cut_is settings m.after.log run'.newest.items editions has_next)));
       },
-      p)
+      p,
+    )

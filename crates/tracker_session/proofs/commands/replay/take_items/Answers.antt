@@ -155,19 +155,20 @@ loop-item-preserved g c =
           let wrote = w.in_ok-write_edition.ensures.written in
           let behind = items_script settings next m.after.log (drop (i + 1) items) in
           let goes : P m.after.log = λ end last f. inv.3 end last
-              (shown_item settings next u.progress m.after (item_of d) (drop (i + 1) items) (drop i items) rest t.added t.has end host last octets.output.items octets.prices.items shown newest.output newest.prices
-              (edition_written octets.output.items octets.prices.items behind end host new last wrote (subst (λ (h : HostState). Follows behind end h last) same f))) in
+          (shown_item settings next u.progress m.after (item_of d) (drop (i + 1) items) (drop i items) rest t.added t.has end host last octets.output.items octets.prices.items shown newest.output newest.prices
+          (edition_written octets.output.items octets.prices.items behind end host new last wrote (subst (λ (h : HostState). Follows behind end h last) same f))) in
           let on = shown_on settings tells begin (take i items) c.loop-item.run c.take.new.self c.loop-item.editions u (item_of d) c.in_ok-take.field-0 m shown P goes w.forget.new.self w.next.new.self given w.forget.ensures.log w.forget.ensures.counts w.forget.ensures.newest in
-          let all = subst (λ (z : List Item × (Run × Editions)). Stands settings tells begin P z.0 z.1.0 z.1.1) (λ j. (sym longer j, (sym w.run-is j, sym w.editions-is j))) on in
-          (all.0,
-          subst (λ (h : HostState). IsBoundFor ways.Write h places.Output) (sym same) (still_open places.Output _ _ wrote.mid new wrote.second.touches (still_open places.Output _ _ host wrote.mid wrote.first.touches inv.1)),
-          subst (λ (h : HostState). IsBoundFor ways.Write h places.Prices) (sym same) (still_open places.Prices _ _ wrote.mid new wrote.second.touches (still_open places.Prices _ _ host wrote.mid wrote.first.touches inv.2)),
-          all.1))
+          let all = subst (λ (z : List Item × (Run × Editions)). Stands settings tells begin P z.0 z.1.0 z.1.1) (λ j. (sym longer j, (sym w.run-is j, sym w.editions-is j))) on in (
+            all.0,
+            subst (λ (h : HostState). IsBoundFor ways.Write h places.Output) (sym same) (still_open places.Output _ _ wrote.mid new wrote.second.touches (still_open places.Output _ _ host wrote.mid wrote.first.touches inv.1)),
+            subst (λ (h : HostState). IsBoundFor ways.Write h places.Prices) (sym same) (still_open places.Prices _ _ wrote.mid new wrote.second.touches (still_open places.Prices _ _ host wrote.mid wrote.first.touches inv.2)),
+            all.1,
+          ))
       | else-branch w ↦ (
           let same : now ≡ host = ap state w.host-is in
           let silent : shows t.added ≡ false = t.shown_is ∙ w.if-branch.false in
           let goes : P m.after.log = λ end last f. inv.3 end last
-              (silent_item settings next u.progress m.after (item_of d) (drop (i + 1) items) (drop i items) rest t.added t.has end host last silent (subst (λ (h : HostState). Follows (items_script settings next m.after.log (drop (i + 1) items)) end h last) same f)) in
+          (silent_item settings next u.progress m.after (item_of d) (drop (i + 1) items) (drop i items) rest t.added t.has end host last silent (subst (λ (h : HostState). Follows (items_script settings next m.after.log (drop (i + 1) items)) end h last) same f)) in
           let on = silent_on settings tells begin (take i items) c.loop-item.run c.take.new.self c.loop-item.editions u (item_of d) c.in_ok-take.field-0 m P goes silent in
           let all = subst (λ (z : List Item × (Run × Editions)). Stands settings tells begin P z.0 z.1.0 z.1.1) (λ j. (sym longer j, (sym w.run-is j, sym w.editions-is j))) on in
           (all.0, subst (λ (h : HostState). IsBoundFor ways.Write h places.Output) (sym same) inv.1, subst (λ (h : HostState). IsBoundFor ways.Write h places.Prices) (sym same) inv.2, all.1))
