@@ -6,9 +6,9 @@ use Rattle.admission_log.specs.declared.settings.Settings.{Settings}
 use Rattle.admission_log.specs.declared.events.Event.{Event}
 use Rattle.admission_log.specs.declared.events.Event.TheVariants.{Deliver, Tick, Publish, Bias}
 use Rattle.admission_log.specs.Histories.{History, appended, first, published_in, publications_of, published_of}
-use Rattle.asterix_frame.specs.Datagrams.{Content, IsDatagram}
 use Rattle.admission_log.specs.declared.events.Receipt.{Receipt}
-use Rattle.admission_log.specs.Deliveries.{Delivers}
+use Rattle.admission_log.specs.Messages.{Said}
+use Rattle.admission_log.specs.Deliveries.{DeliversOf}
 use Rattle.admission_log.specs.Legality.{IsLegal}
 use Rattle.admission_log.proofs.Growing.{events-appended, publications-appended, published-appended}
 use Rattle.edition_form.specs.declared.edition.Edition.{Edition}
@@ -65,10 +65,8 @@ stands_after (Ok v) settings log new newest e plain grown same legal s = subst (
 stands_after (Err v) settings log new newest e plain grown same legal s = subst (λ h. StandsFor settings h newest) (sym same) s
 
 -- .. after a datagram
-pub stands_fed : {F : Type 0} (r : Result Receipt F) (settings own : Settings) (feed : ℕ) (datagram : List ℕ) (log new : History) (newest : Option Edition) → own ≡ settings
-    → IfOk r (λ v. (contents : List Content) × IsDatagram datagram contents × Delivers own feed contents log new v.outcomes) → OnErr r (new ≡ log)
+pub stands_fed : {F : Type 0} (r : Result Receipt F) (settings own : Settings) (feed : ℕ) (said : Said) (log new : History) (newest : Option Edition) → own ≡ settings → IfOk r (λ v. DeliversOf own feed said log new v.outcomes) → OnErr r (new ≡ log)
     → (IsLegal own log → IsLegal own new) → StandsFor settings log newest → StandsFor settings new newest
-stands_fed (Ok v) settings own feed datagram log new newest is fed same legal s = let d = fed.2 in
-    let legal' : IsLegal settings new = subst (λ z. IsLegal z new) is (legal (subst (λ z. IsLegal z log) (sym is) s.legal)) in
+stands_fed (Ok v) settings own feed said log new newest is d same legal s = let legal' : IsLegal settings new = subst (λ z. IsLegal z new) is (legal (subst (λ z. IsLegal z log) (sym is) s.legal)) in
     subst (λ h. StandsFor settings h newest) (sym d.new_is) (stands_plain settings log newest d.event (ap is_publication d.is_delivery.event_is) s (subst (IsLegal settings) d.new_is legal'))
-stands_fed (Err v) settings own feed datagram log new newest is fed same legal s = subst (λ h. StandsFor settings h newest) (sym same) s
+stands_fed (Err v) settings own feed said log new newest is fed same legal s = subst (λ h. StandsFor settings h newest) (sym same) s

@@ -6,13 +6,13 @@ use Rattle.turn_lock.specs.Lists.{Begins}
 use Rattle.turn_lock.specs.Steps.{Adds, new_index}
 use Rattle.turn_lock.specs.Turns.{Token, LockFacts, IsTurnOf, Finds, MayLeave, turned}
 use Rattle.admission_log.specs.declared.events.Event.{Event}
-use Rattle.asterix_frame.specs.Datagrams.{Content, IsDatagram}
 use Rattle.admission_log.specs.declared.events.Event.TheVariants.{Tick, Publish}
 use Rattle.admission_log.specs.declared.events.Receipt.{Receipt}
 use Rattle.admission_log.specs.declared.events.TickError.{TickError}
 use Rattle.admission_log.specs.declared.events.TickError.TheVariants as errors
 use Rattle.admission_log.specs.declared.settings.Settings.{Settings}
-use Rattle.admission_log.specs.Deliveries.{Delivers}
+use Rattle.admission_log.specs.Messages.{Said}
+use Rattle.admission_log.specs.Deliveries.{DeliversOf}
 use Rattle.admission_log.specs.Histories.{History, appended, first, last_of, publications_of, published_of, cut_of}
 use Rattle.admission_log.specs.Legality.{IsLegal}
 use Rattle.station.specs.declared.shared.Base.{Base}
@@ -92,11 +92,10 @@ module _ (such : Event → Bool) (old new : Token Event Base) (found left : List
   made_after (Err v) e grown same is_such = made_seen same
 
 -- a datagram's event is of its feed
-pub made_fed : {F : Type 0} (r : Result Receipt F) (old new : Token Event Base) (x y : Shared) (feed : ℕ) (datagram : List ℕ) → AllAt (is_of_feed feed) old.mine old.seen → Begins old.seen (events_of x) → new ≡ turned old (events_of x) (events_of y)
-    → IfOk r (λ v. (contents : List Content) × IsDatagram datagram contents × Delivers x.settings feed contents x.log y.log v.outcomes) → OnErr r (y.log ≡ x.log) → AllAt (is_of_feed feed) new.mine new.seen
-made_fed (Ok v) old new x y feed datagram made begins is fed same = let d = fed.2 in
-    made_added (is_of_feed feed) old new (events_of x) (events_of y) made begins is d.event (ap (λ (h : History). h.events) d.new_is) (ap (is_of_feed feed) d.is_delivery.event_is ∙ eq-eqb feed feed refl)
-made_fed (Err v) old new x y feed datagram made begins is fed same = made_seen (is_of_feed feed) old new (events_of x) (events_of y) made begins is (ap (λ (h : History). h.events) same)
+pub made_fed : {F : Type 0} (r : Result Receipt F) (old new : Token Event Base) (x y : Shared) (feed : ℕ) (said : Said) → AllAt (is_of_feed feed) old.mine old.seen → Begins old.seen (events_of x) → new ≡ turned old (events_of x) (events_of y)
+    → IfOk r (λ v. DeliversOf x.settings feed said x.log y.log v.outcomes) → OnErr r (y.log ≡ x.log) → AllAt (is_of_feed feed) new.mine new.seen
+made_fed (Ok v) old new x y feed said made begins is d same = made_added (is_of_feed feed) old new (events_of x) (events_of y) made begins is d.event (ap (λ (h : History). h.events) d.new_is) (ap (is_of_feed feed) d.is_delivery.event_is ∙ eq-eqb feed feed refl)
+made_fed (Err v) old new x y feed said made begins is fed same = made_seen (is_of_feed feed) old new (events_of x) (events_of y) made begins is (ap (λ (h : History). h.events) same)
 
 pub longer : (old new : Token Event Base) (found left : List Event) → Begins old.seen found → Begins found left → new ≡ turned old found left → length old.seen ≤ length new.seen
 longer old new found left b g is = let one = ap length b.1 ∙ length-append old.seen b.0 in let two = ap length g.1 ∙ length-append found g.0 in let three : length new.seen ≡ length left = ap (λ (t : Token Event Base). length t.seen) is in omega (arith, one, two, three)

@@ -9,7 +9,8 @@ use Rattle.admission_log.specs.declared.events.Event.{Event}
 use Rattle.admission_log.specs.declared.events.Event.TheVariants.{Tick, Publish}
 use Rattle.admission_log.specs.declared.events.Receipt.{Receipt}
 use Rattle.admission_log.specs.Histories.{first, last_of, publications_of, published_of, cut_of}
-use Rattle.admission_log.specs.Deliveries.{Delivers}
+use Rattle.admission_log.specs.Messages.{Said, said_by}
+use Rattle.admission_log.specs.Deliveries.{DeliversOf}
 use Rattle.admission_log.specs.Legality.{IsLegal}
 use Rattle.edition_form.specs.declared.edition.Edition.{Edition}
 use Rattle.edition_form.specs.Editions.{IsEdition}
@@ -44,14 +45,18 @@ pub record OnlySaw (old new : Token Event Base) : Type 0 where
   pub begins : Begins old.seen new.seen
   pub after : new ≡ having_seen old new.seen
 
--- a datagram of these contents was admitted, and this was told
-pub record Admits (station : Station) (old new : Feeder) (contents : List Content) (receipt : Receipt) : Type 0 where
+-- a datagram that said this was admitted, and this was told of it
+pub record AdmitsSaid (station : Station) (old new : Feeder) (said : Said) (receipt : Receipt) : Type 0 where
   pub found : List Event
   pub are_found : AreFound station old.turn found
   pub event : Event
-  pub delivers : Delivers (settings_of station) old.feed contents (log_with station found) (log_with station (found ++ event ∷ [])) receipt.outcomes
+  pub delivers : DeliversOf (settings_of station) old.feed said (log_with station found) (log_with station (found ++ event ∷ [])) receipt.outcomes
   pub index : receipt.at ≡ length found
   pub after : new.turn ≡ having_added old.turn found event
+
+-- .. of these contents
+abbrev pub Admits : Station → Feeder → Feeder → List Content → Receipt → Type 0
+Admits station old new contents receipt = AdmitsSaid station old new (said_by contents) receipt
 
 -- the tick was taken, at that index
 pub record Ticks (station : Station) (old new : Conductor) (time index : ℕ) : Type 0 where

@@ -5,6 +5,7 @@ use crate::shared::SharedLog;
 use crate::{Conductor, Feeder, Subscriber};
 use admission_log::Event;
 use edition_form::Edition;
+use std::alloc::Global;
 use std::sync::Arc;
 use turn_lock::{Turn, TurnLock};
 
@@ -22,6 +23,7 @@ pub const READER_LIMIT: u8 = 16;
 /// reference.
 #[derive(Drop)]
 pub struct Station {
+    alloc: Global,
     lock: TurnLock<SharedLog>,
     feeds: u8,
     readers: u8,

@@ -3,20 +3,17 @@ ghost use Rattle.std.specs.Prelude.{◌≡◌, ◌<◌, ◌≤◌, ◌+◌, ◌^
 ghost use Rattle.std.specs.Option.{option_map};
 ghost use Rattle.std.specs.Arc.{arc_value};
 ghost use Rattle.trk_base.specs.Limits.{count_limit};
-ghost use Rattle.asterix_frame.specs.declared.block.Malformed.{Malformed};
-ghost use Rattle.asterix_frame.specs.Answers.{IfMalformed, AnswersWith, RefusesWith};
-ghost use Rattle.asterix_frame.specs.Datagrams.{Content, IsDatagram, DatagramFault};
 ghost use Rattle.admission_log.specs.declared.events.Event.TheVariants as events;
 ghost use Rattle.admission_log.specs.declared.events.TickError.TheVariants as errors;
 ghost use Rattle.admission_log.specs.Histories.{appended, first, last_of, publications_of, published_of, cut_of};
-ghost use Rattle.admission_log.specs.Deliveries.{Delivers};
+ghost use Rattle.admission_log.specs.Deliveries.{DeliversOf};
 ghost use Rattle.admission_log.specs.Legality.{IsLegal};
 ghost use Rattle.edition_form.specs.Editions.{IsEdition};
 ghost use Rattle.station.specs.Newest.{IsNewest, last_cut};
 ghost use Rattle.station.specs.Shared.{base_of, events_of};
 
 use super::SharedLog;
-use admission_log::{AdmitError, Event, Log, Receipt, Settings, TickError};
+use admission_log::{Event, Log, Messages, Receipt, Settings, TickError};
 use edition_form::Edition;
 use std::alloc::Global;
 use std::sync::Arc;
@@ -37,19 +34,15 @@ impl SharedLog {
         }
     }
 
-    // Admits a datagram of a feed.
-    pub(crate) fn admit(&mut self, feed: u8, datagram: &[u8]) -> Result<Receipt, AdmitError>
-        requires { length datagram.now ≤ 65535 }
+    // Admits the messages of a datagram of a feed.
+    pub(crate) fn admit(&mut self, feed: u8, messages: &Messages) -> Result<Receipt, NoMemory>
         ensures base { base_of self.new ≡ base_of self.old }
         ensures legal { IsLegal self.old.settings self.old.log }
         ensures index { IfOk result (λ r. r.at ≡ length (events_of self.old)) }
-        ensures delivered { IfOk result (λ r. (contents : List Content) × IsDatagram datagram.now contents × Delivers self.old.settings feed contents self.old.log self.new.log r.outcomes) }
-        ensures malformed { IfMalformed result (λ m. DatagramFault datagram.now m.offset m.cause) }
-        ensures reads { (contents : List Content) → IsDatagram datagram.now contents → AnswersWith result (λ r. Delivers self.old.settings feed contents self.old.log self.new.log r.outcomes) }
-        ensures refuses { (m : Malformed) → DatagramFault datagram.now m.offset m.cause → RefusesWith result (λ x. x ≡ m) }
+        ensures delivered { IfOk result (λ r. DeliversOf self.old.settings feed messages.now self.old.log self.new.log r.outcomes) }
         ensures err { OnErr result (self.new.log ≡ self.old.log) }
     {
-        self.log.admit(&self.settings, feed, datagram)
+        self.log.admit_messages(&self.settings, feed, messages)
     }
 
     // Takes a tick.

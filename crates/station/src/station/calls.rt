@@ -8,12 +8,12 @@ ghost use Rattle.asterix_frame.specs.Datagrams.{Content, IsDatagram, DatagramFau
 ghost use Rattle.admission_log.specs.declared.events.TickError.TheVariants as errors;
 ghost use Rattle.admission_log.specs.Histories.{published_of};
 ghost use Rattle.station.specs.Tokens.{log_with, gathered_of, IsFeederOf, IsConductorOf, IsSubscriberOf};
-ghost use Rattle.station.specs.Turns.{OnlySaw, Admits, Ticks, IsOld, Gathers, MayPublish, Publishes, AsksLatest, TakesNext, HasNoNext};
+ghost use Rattle.station.specs.Turns.{OnlySaw, Admits, AdmitsSaid, Ticks, IsOld, Gathers, MayPublish, Publishes, AsksLatest, TakesNext, HasNoNext};
 
 use super::Station;
 use crate::shared::SharedLog;
 use crate::{Conductor, Feeder, Subscriber};
-use admission_log::{AdmitError, Event, Receipt, TickError};
+use admission_log::{AdmitError, Event, Messages, Receipt, TickError, read_messages};
 use edition_form::Edition;
 use std::sync::{Arc, Wait};
 use trk_base::NoMemory;
@@ -41,13 +41,33 @@ impl Station {
         ensures reads { (contents : List Content) → IsDatagram datagram.now contents → AnswersWith result (λ r. Admits self.now by.old by.new contents r) }
         ensures refuses { (m : Malformed) → DatagramFault datagram.now m.offset m.cause → RefusesWith result (λ x. x ≡ m) }
 
+        // A malformed datagram takes no turn.
+        ensures untouched { IfMalformed result (λ m. by.new.turn ≡ by.old.turn) }
+
+        ensures err { OnErr result (OnlySaw by.old.turn by.new.turn) }
+    {
+        let messages = read_messages(self.alloc, datagram)?;
+        Ok(self.admit_messages(rt, by, &messages)?)
+    }
+
+    // Admits the messages of a datagram at this turn.
+    fn admit_messages<W: Wait>(
+        &self,
+        rt: &W,
+        by: &mut Feeder,
+        messages: &Messages,
+    ) -> Result<Receipt, NoMemory>
+        requires own { IsFeederOf self.now by.old }
+        ensures own { IsFeederOf self.now by.new }
+        ensures feed { by.new.feed ≡ by.old.feed }
+        ensures admits { IfOk result (λ r. AdmitsSaid self.now by.old by.new messages.now r) }
         ensures err { OnErr result (OnlySaw by.old.turn by.new.turn) }
     {
         let feed = by.feed;
         self.lock.with_turn(
             rt,
             &mut by.turn,
-            |shared: &mut SharedLog| shared.admit(feed, datagram),
+            |shared: &mut SharedLog| shared.admit(feed, messages),
         )
     }
 

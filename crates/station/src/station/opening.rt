@@ -51,6 +51,7 @@ impl Station {
         deal_feeders(&mut turns, feeds, &mut feeders);
         deal_subscribers(&mut turns, readers, &mut subscribers);
         let station = Station {
+            alloc,
             lock,
             feeds,
             readers,
