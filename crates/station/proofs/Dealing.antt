@@ -74,10 +74,10 @@ all_newcomers lock turns each = all_at HasAddedNone turns (λ n lt. subst (λ o.
 
 -- ---- the tokens of a station that is opened
 
-and_at : {A : Type 0} {P Q : A → Type 0} (xs : List A) (n : ℕ) → IsSomeAnd (slice_get xs n) P → AllByRecursion Q xs → IsSomeAnd (slice_get xs n) (λ x. P x × Q x)
-and_at [] n h q = absurd h
-and_at (x ∷ xs) zero h q = (h, q.0)
-and_at (x ∷ xs) (suc n) h q = and_at xs n h q.1
+and_at : {A : Type 0} (P Q : A → Type 0) (xs : List A) (n : ℕ) → IsSomeAnd (slice_get xs n) P → AllByRecursion Q xs → IsSomeAnd (slice_get xs n) (λ x. P x × Q x)
+and_at P Q [] n h q = absurd h
+and_at P Q (x ∷ xs) zero h q = (h, q.0)
+and_at P Q (x ∷ xs) (suc n) h q = and_at P Q xs n h q.1
 
 -- behind the head's turn
 pub tail_at : (lock : LockFacts Base) (turns : List (Token Event Base)) (head : Token Event Base) (tail : List (Token Event Base)) → EachIndex turns (λ n. slice_get turns n ≡ Some (newcomer lock n)) → turns ≡ head ∷ tail
@@ -89,20 +89,20 @@ head_is lock turns head tail each are = let e : Some head ≡ Some (newcomer loc
 
 pub new_feeders : (station : Station) (fs : List Feeder) (tail rest : List (Token Event Base)) (count : ℕ) → map (λ x. x.turn) fs ++ rest ≡ tail → map (λ x. x.feed) fs ≡ range_with_len 0 count → length fs ≡ count
     → ((n : ℕ) → n < length tail → slice_get tail n ≡ Some (newcomer station.lock (n + 1))) → (n : ℕ) → n < length fs → IsSomeAnd (slice_get fs n) (IsNewFeeder station n)
-new_feeders station fs tail rest count are named size turns n lt = let long = ap length are in let sum = length-append (map (λ (x : Feeder). x.turn) fs) rest in let same = length-map (λ (x : Feeder). x.turn) fs in
+new_feeders station fs tail rest count are named size turns n lt = let long = ap length are in let sum = length-append (map (λ (x : Feeder). x.turn) fs) rest in let same = length-map fs (λ (x : Feeder). x.turn) in
     weaker_at (λ x h. record { turn = h.0; feed_is = h.1 }) fs n (dealt (λ (x : Feeder). x.turn) (λ (x : Feeder). x.feed) (λ m. newcomer station.lock (m + 1)) count fs rest tail are named size (λ m l. turns m (omega (arith, long, sum, same, l))) n lt)
 
 pub new_subscribers : (station : Station) (fs : List Feeder) (ss : List Subscriber) (tail rest end : List (Token Event Base)) (count : ℕ) → map (λ x. x.turn) fs ++ rest ≡ tail → length fs ≡ station.feeds → map (λ x. x.turn) ss ++ end ≡ rest
     → map (λ x. x.reader) ss ≡ range_with_len 0 count → length ss ≡ count → All (λ x. x.number ≡ 0) ss → ((n : ℕ) → n < length tail → slice_get tail n ≡ Some (newcomer station.lock (n + 1)))
     → (n : ℕ) → n < length ss → IsSomeAnd (slice_get ss n) (IsNewSubscriber station n)
-new_subscribers station fs ss tail rest end count are fed ends named size numbers turns n lt = let long = ap length are in let sum = length-append (map (λ (x : Feeder). x.turn) fs) rest in let same = length-map (λ (x : Feeder). x.turn) fs in
-    let long' = ap length ends in let sum' = length-append (map (λ (x : Subscriber). x.turn) ss) end in let same' = length-map (λ (x : Subscriber). x.turn) ss in
+new_subscribers station fs ss tail rest end count are fed ends named size numbers turns n lt = let long = ap length are in let sum = length-append (map (λ (x : Feeder). x.turn) fs) rest in let same = length-map fs (λ (x : Feeder). x.turn) in
+    let long' = ap length ends in let sum' = length-append (map (λ (x : Subscriber). x.turn) ss) end in let same' = length-map ss (λ (x : Subscriber). x.turn) in
     let at : (m : ℕ) → m < length ss → slice_get rest m ≡ Some (newcomer station.lock (station.feeds + 1 + m)) = λ m l.
     let up : station.feeds + m + 1 ≡ station.feeds + 1 + m = omega arith in
     sym (behind_list (map (λ (x : Feeder). x.turn) fs) rest m (station.feeds + m) (omega (arith, same, fed))) ∙ (ap (λ (l : List (Token Event Base)). slice_get l (station.feeds + m)) are
     ∙ (turns (station.feeds + m) (omega (arith, long, sum, same, fed, long', sum', same', l)) ∙ ap (λ (k : ℕ). Some (newcomer station.lock k)) up)) in
     weaker_at (λ x h. record { turn = h.0.0; reader_is = h.0.1; number = h.1 }) ss n
-    (and_at ss n (dealt (λ (x : Subscriber). x.turn) (λ (x : Subscriber). x.reader) (λ m. newcomer station.lock (station.feeds + 1 + m)) count ss end rest ends named size at n lt) (recursion_from_All (λ (x : Subscriber). x.number ≡ 0) ss numbers))
+    (and_at _ _ ss n (dealt (λ (x : Subscriber). x.turn) (λ (x : Subscriber). x.reader) (λ m. newcomer station.lock (station.feeds + 1 + m)) count ss end rest ends named size at n lt) (recursion_from_All (λ (x : Subscriber). x.number ≡ 0) ss numbers))
 
 own_new : (lock : LockFacts Base) (turn : Token Event Base) (n : ℕ) → turn ≡ newcomer lock n → IsTurnOf lock turn
 own_new lock turn n e = subst (IsTurnOf lock) (sym e) record { table = refl; base = refl }
