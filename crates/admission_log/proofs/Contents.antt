@@ -1,5 +1,7 @@
--- A block that was read, as what it is in the datagram, and what it brings.
-use Rattle.std.proofs.Common.{◌≡◌, ◌≢◌, sym, subst, refl, ℕ, ◌+◌, List, [], ◌∷◌, arith}
+-- A block that was read: what it is in the datagram, and what the datagram says with it.
+use Rattle.std.proofs.Common.{◌≡◌, ◌≢◌, ◌∙◌, ap, sym, subst, refl, ℕ, ◌+◌, List, [], ◌∷◌, ◌++◌, append-nil, arith}
+use Rattle.std.specs.List.{flat_map}
+use Rattle.std.proofs.lemmas.Grind.{flat_map-append}
 use Rattle.asterix_frame.specs.declared.block.Block.{Block}
 use Rattle.asterix_frame.specs.declared.tables.Uap.{Uap}
 use Rattle.asterix_frame.specs.Tables.{category_of}
@@ -8,12 +10,9 @@ use Rattle.asterix_frame.specs.Offsets.{data_block}
 use Rattle.asterix_frame.specs.DataRecords.{DataRecord}
 use Rattle.asterix_frame.specs.Bodies.{IsBody, body_of}
 use Rattle.asterix_frame.specs.Datagrams.{Content, records, other, IsReadCategory, IsContent, block_of}
-use Rattle.admission_log.specs.declared.settings.Settings.{Settings}
-use Rattle.admission_log.specs.declared.delivery.Delivery.{Delivery}
-use Rattle.admission_log.specs.Messages.{Message, messages_in, other_count}
-use Rattle.admission_log.specs.Deliveries.{AreJudged}
-use Rattle.admission_log.proofs.Judgements.{are_judged}
-use Rattle.admission_log.specs.Brought.{Brings, BringsMessages, BringsBlock}
+use Rattle.admission_log.specs.declared.messages.BlockMessages.{BlockMessages}
+use Rattle.admission_log.specs.Messages.{messages_in, other_count, Said}
+use Rattle.admission_log.specs.ReadMessages.{messages_kept, with_block}
 
 same_block : (k l : ℕ) (x y : List ℕ) → k ≡ l → x ≡ y → let one : DataBlock = record { category = k; body = x } in let two : DataBlock = record { category = l; body = y } in one ≡ two
 same_block k l x y p q = λ i. record { category = p i; body = q i }
@@ -28,15 +27,21 @@ records_content uap block rs is_read category fits body =
 pub other_content : (block : Block) → block.cat ≢ 34 → block.cat ≢ 48 → IsDataBlock (data_block block) → IsContent (other block.cat block.body.now) × (block_of (other block.cat block.body.now) ≡ data_block block)
 other_content block not_034 not_048 fits = ((not_034, not_048, fits), refl)
 
--- the messages of a block, and no more blocks passed over
-pub brings_messages : (settings : Settings) (last : ℕ) (c : Content) (ms : List Message) (old new : Delivery) → ms ≡ messages_in c → other_count (c ∷ []) ≡ 0 → BringsMessages settings last ms old new → BringsBlock settings last c old new
-brings_messages settings last c ms old new same none brings = record {
-  judgements = brings.judgements;
-  are_judged = subst (λ x. AreJudged settings last old.next x brings.judgements) same brings.are_judged;
-  brings = brings.brings;
-  other = omega (arith, brings.other, none);
-}
+-- what is said by the messages of these blocks, where so many others were passed over
+abbrev saying : List BlockMessages → ℕ → Said
+saying blocks count = record { messages = flat_map messages_kept blocks; other = count }
 
--- a block without messages that is passed over
-pub brings_other : (settings : Settings) (last : ℕ) (category : ℕ) (body : List ℕ) (old new : Delivery) → Brings [] old new → new.other ≡ old.other + 1 → BringsBlock settings last (other category body) old new
-brings_other settings last category body old new brings more = record { judgements = []; are_judged = are_judged settings last old.next []; brings = brings; other = more }
+-- with the messages of one block more
+pub said_with_records : (blocks new : List BlockMessages) (count : ℕ) (old : Said) (b : BlockMessages) (c : Content) → saying blocks count ≡ old → new ≡ blocks ++ b ∷ [] → messages_kept b ≡ messages_in c → other_count (c ∷ []) ≡ 0 → saying new count ≡ with_block c old
+said_with_records blocks new count old b c same grown kept none =
+    let messages : flat_map messages_kept new ≡ old.messages ++ messages_in c =
+    ap (flat_map messages_kept) grown ∙ flat_map-append messages_kept blocks (b ∷ []) ∙ ap (λ t. flat_map messages_kept blocks ++ t) (append-nil (messages_kept b) ∙ kept) ∙ ap (λ s. s.messages ++ messages_in c) same in
+    let others : count ≡ old.other + other_count (c ∷ []) = omega (arith, ap (λ s. s.other) same, none) in
+    λ i. record { messages = messages i; other = others i }
+
+-- with one block more that is passed over
+pub said_with_other : (blocks : List BlockMessages) (count : ℕ) (old : Said) (category : ℕ) (body : List ℕ) → saying blocks count ≡ old → saying blocks (count + 1) ≡ with_block (other category body) old
+said_with_other blocks count old category body same =
+    let messages : flat_map messages_kept blocks ≡ old.messages ++ [] = ap (λ s. s.messages) same ∙ sym (append-nil old.messages) in
+    let others : count + 1 ≡ old.other + 1 = ap (λ s. s.other + 1) same in
+    λ i. record { messages = messages i; other = others i }

@@ -7,8 +7,8 @@ use Rattle.admission_log.specs.declared.settings.Settings.{Settings}
 use Rattle.admission_log.specs.declared.events.Admitted.{Admitted}
 use Rattle.admission_log.specs.declared.events.Outcome.{Outcome}
 use Rattle.admission_log.specs.declared.events.Event.{Event}
-use Rattle.admission_log.specs.Messages.{Message, messages_of, other_count}
-use Rattle.admission_log.specs.Deliveries.{judged_message, admitted_count, AreJudged, delivered, IsDelivery}
+use Rattle.admission_log.specs.Messages.{Message, Said, said_by}
+use Rattle.admission_log.specs.Deliveries.{judged_message, admitted_count, AreJudged, delivered, IsDelivery, IsDeliveryOf}
 
 -- the arrival that comes next
 abbrev pub next_after : ℕ → Result Admitted Outcome → ℕ
@@ -20,9 +20,13 @@ abbrev pub judged_all : Settings → ℕ → ℕ → List Message → List (Resu
 judged_all settings last next [] = []
 judged_all settings last next (m ∷ ms) = judged_message settings last next m ∷ judged_all settings last (next_after next (judged_message settings last next m)) ms
 
--- the event of a datagram of these blocks
+-- the event of a datagram that says this
+abbrev pub delivery_of : Settings → ℕ → ℕ → ℕ → Said → Event
+delivery_of settings last next feed said = delivered feed (judged_all settings last next said.messages) said.other
+
+-- .. of a datagram of these blocks
 abbrev pub delivery : Settings → ℕ → ℕ → ℕ → List Content → Event
-delivery settings last next feed contents = delivered feed (judged_all settings last next (messages_of contents)) (other_count contents)
+delivery settings last next feed contents = delivery_of settings last next feed (said_by contents)
 
 -- the arrival after what was judged
 pub next_counts : (next : ℕ) (j : Result Admitted Outcome) → next_after next j ≡ next + admitted_count (j ∷ [])
@@ -95,16 +99,19 @@ judged_one settings last next m j same = subst (λ x. AreJudged settings last ne
 
 -- ---- deliveries
 
-pub is_delivery : (settings : Settings) (last next feed : ℕ) (contents : List Content) → IsDelivery settings last next feed contents (delivery settings last next feed contents)
-is_delivery settings last next feed contents = record {
-  judgements = judged_all settings last next (messages_of contents);
-  are_judged = are_judged settings last next (messages_of contents);
+pub is_delivery_of : (settings : Settings) (last next feed : ℕ) (said : Said) → IsDeliveryOf settings last next feed said (delivery_of settings last next feed said)
+is_delivery_of settings last next feed said = record {
+  judgements = judged_all settings last next said.messages;
+  are_judged = are_judged settings last next said.messages;
   event_is = refl;
 }
 
-pub delivery_is : (settings : Settings) (last next feed : ℕ) (contents : List Content) (event : Event) → IsDelivery settings last next feed contents event → event ≡ delivery settings last next feed contents
-delivery_is settings last next feed contents event h =
-    h.event_is ∙ ap (λ js. delivered feed js (other_count contents)) (one_judgement settings last next (messages_of contents) h.judgements h.are_judged)
+pub is_delivery : (settings : Settings) (last next feed : ℕ) (contents : List Content) → IsDelivery settings last next feed contents (delivery settings last next feed contents)
+is_delivery settings last next feed contents = is_delivery_of settings last next feed (said_by contents)
+
+pub delivery_is : (settings : Settings) (last next feed : ℕ) (said : Said) (event : Event) → IsDeliveryOf settings last next feed said event → event ≡ delivery_of settings last next feed said
+delivery_is settings last next feed said event h =
+    h.event_is ∙ ap (λ js. delivered feed js said.other) (one_judgement settings last next said.messages h.judgements h.are_judged)
 
 pub one_delivery : (settings : Settings) (last next feed : ℕ) (contents : List Content) (a b : Event) → IsDelivery settings last next feed contents a → IsDelivery settings last next feed contents b → a ≡ b
-one_delivery settings last next feed contents a b h k = delivery_is settings last next feed contents a h ∙ sym (delivery_is settings last next feed contents b k)
+one_delivery settings last next feed contents a b h k = delivery_is settings last next feed (said_by contents) a h ∙ sym (delivery_is settings last next feed (said_by contents) b k)

@@ -5,6 +5,7 @@ pub mod Bringing
 pub mod Contents
 pub mod Reading
 pub mod Sound
+pub mod Appending
 pub mod Rising
 pub mod Entering
 pub mod Changing

@@ -1,5 +1,5 @@
--- A datagram, read block by block: what the delivery holds, and where the first fault is.
-use Rattle.std.proofs.Common.{◌≡◌, ◌∙◌, ap, sym, subst, refl, ℕ, ◌+◌, ◌*◌, ◌≤◌, List, [], ◌∷◌, ◌++◌, length, drop, true, false, cond, arith, length-append, append_assoc, append-nil}
+-- A datagram, read block by block: what it says so far, and where the first fault is.
+use Rattle.std.proofs.Common.{◌≡◌, ◌∙◌, ap, sym, refl, ℕ, ◌+◌, ◌*◌, ◌≤◌, List, [], ◌∷◌, ◌++◌, length, drop, true, false, cond, arith, length-append, append_assoc, append-nil}
 use Rattle.std.specs.List.{AllByRecursion}
 use Rattle.std.proofs.lemmas.List.{drop_all}
 use Rattle.std.proofs.lemmas.Grind.{flat_map-append}
@@ -11,39 +11,28 @@ use Rattle.asterix_frame.specs.Blocks.{DataBlock, encoded}
 use Rattle.asterix_frame.specs.Offsets.{data_block, BeginsBlock}
 use Rattle.asterix_frame.specs.Answers.{BeginsNoBlock}
 use Rattle.asterix_frame.specs.Datagrams.{Content, IsContent, IsDatagram, DatagramFault, BeginsFaultyBlock, no_block, no_records, block_of, datagram_of}
-use Rattle.admission_log.specs.declared.settings.Settings.{Settings}
-use Rattle.admission_log.specs.declared.delivery.Delivery.{Delivery}
 use Rattle.asterix_frame.proofs.Datagrams.{first_fault}
-use Rattle.admission_log.specs.declared.events.Event.TheVariants.{Deliver}
-use Rattle.admission_log.specs.Messages.{messages_in, messages_of, is_other, other_count}
-use Rattle.admission_log.specs.Deliveries.{admitted_count, IsDelivery}
-use Rattle.admission_log.proofs.Judgements.{judged_all, judged_all-append, one_judgement, delivery, is_delivery}
-use Rattle.admission_log.specs.Brought.{Brings, BringsBlock, IsFaultOfBlock}
-use Rattle.admission_log.proofs.Bringing.{brings_none, brings_more}
+use Rattle.admission_log.specs.Messages.{messages_in, messages_of, is_other, other_count, Said, said_by}
+use Rattle.admission_log.specs.ReadMessages.{with_block}
+use Rattle.admission_log.specs.Brought.{IsFaultOfBlock}
 
--- nothing yet
-abbrev pub fresh : ℕ → Delivery
-fresh next = record { next = next; admitted = []; outcomes = []; other = 0 }
-
--- the delivery holds what these blocks bring, and they are the datagram up to that place
-pub record Holds (settings : Settings) (last next : ℕ) (datagram : List ℕ) (from : ℕ) (d : Delivery) (contents : List Content) : Type 0 where
+-- this is what these blocks say, and they are the datagram up to that place
+pub record Holds (datagram : List ℕ) (from : ℕ) (said : Said) (contents : List Content) : Type 0 where
   pub are_contents : AllByRecursion IsContent contents
   pub whole : datagram ≡ datagram_of contents ++ drop from datagram
   pub place : from ≡ length (datagram_of contents)
   pub within : from ≤ length datagram
-  pub brings : Brings (judged_all settings last next (messages_of contents)) (fresh next) d
-  pub other : d.other ≡ other_count contents
-  pub few : 3 * d.other ≤ from
+  pub said_is : said ≡ said_by contents
+  pub few : 3 * said.other ≤ from
 
-pub holds_none : (settings : Settings) (last next : ℕ) (datagram : List ℕ) → Holds settings last next datagram 0 (fresh next) []
-holds_none settings last next datagram = record {
+pub holds_none : (datagram : List ℕ) (said : Said) → said ≡ said_by [] → Holds datagram 0 said []
+holds_none datagram said same = record {
   are_contents = tt;
   whole = refl;
   place = refl;
   within = omega arith;
-  brings = brings_none (fresh next);
-  other = refl;
-  few = omega arith;
+  said_is = same;
+  few = omega (arith, ap (λ s. s.other) same);
 }
 
 all_more : (contents : List Content) (c : Content) → AllByRecursion IsContent contents → IsContent c → AllByRecursion IsContent (contents ++ c ∷ [])
@@ -64,39 +53,34 @@ one_other : (c : Content) → other_count (c ∷ []) ≤ 1
 one_other c = elim (is_other c) as (λ b. 0 + cond b 1 0 ≤ 1) [ true ↦ omega arith | false ↦ omega arith ]
 
 -- one more block
-pub holds_more : (settings : Settings) (last next : ℕ) (datagram : List ℕ) (from : ℕ) (old new : Delivery) (contents : List Content) (block : Block) (c : Content)
-    → Holds settings last next datagram from old contents → BeginsBlock datagram from block → IsContent c → block_of c ≡ data_block block → BringsBlock settings last c old new
-    → (end : ℕ) → end ≡ block.at + length block.body.now → Holds settings last next datagram end new (contents ++ c ∷ [])
-holds_more settings last next datagram from old new contents block c h begins is same brings end end_is =
-    let js = judged_all settings last next (messages_of contents) in
-    let ks = judged_all settings last (next + admitted_count js) (messages_in c) in
+pub holds_more : (datagram : List ℕ) (from : ℕ) (old new : Said) (contents : List Content) (block : Block) (c : Content)
+    → Holds datagram from old contents → BeginsBlock datagram from block → IsContent c → block_of c ≡ data_block block → new ≡ with_block c old
+    → (end : ℕ) → end ≡ block.at + length block.body.now → Holds datagram end new (contents ++ c ∷ [])
+holds_more datagram from old new contents block c h begins is same with_c end end_is =
     let rest = drop end datagram in
     let grown = datagram-more contents c (data_block block) same in
     let octets : drop from datagram ≡ encoded (data_block block) ++ rest = begins.octets ∙ ap (λ k. encoded (data_block block) ++ drop k datagram) (sym end_is) in
-    let judged : js ++ ks ≡ judged_all settings last next (messages_of (contents ++ c ∷ [])) =
-    sym (judged_all-append settings last next (messages_of contents) (messages_in c)) ∙ ap (judged_all settings last next) (sym (messages-more contents c)) in
-    let judgements = one_judgement settings last old.next (messages_in c) brings.judgements brings.are_judged in
-    let then : Brings ks old new = subst (λ js. Brings js old new) (judgements ∙ ap (λ n. judged_all settings last n (messages_in c)) h.brings.next) brings.brings in
+    let said_more : with_block c (said_by contents) ≡ said_by (contents ++ c ∷ []) = λ i. record { messages = sym (messages-more contents c) i; other = sym (other-more contents c) i } in
+    let other : new.other ≡ old.other + other_count (c ∷ []) = ap (λ s. s.other) with_c in
     record {
       are_contents = all_more contents c h.are_contents is;
       whole = h.whole ∙ ap (λ t. datagram_of contents ++ t) octets ∙ sym (append_assoc (datagram_of contents) (encoded (data_block block)) rest) ∙ sym (ap (λ t. t ++ rest) grown);
       place = omega (arith, end_is, begins.at_is, h.place, ap length grown, length-append (datagram_of contents) (encoded (data_block block)));
       within = omega (arith, end_is, begins.within);
-      brings = subst (λ t. Brings t (fresh next) new) judged (brings_more js ks (fresh next) old new h.brings then);
-      other = omega (arith, brings.other, h.other, other-more contents c);
-      few = omega (arith, brings.other, h.few, one_other c, end_is, begins.at_is);
+      said_is = with_c ∙ ap (with_block c) h.said_is ∙ said_more;
+      few = omega (arith, other, h.few, one_other c, end_is, begins.at_is);
     }
 
 -- ---- how it ends
 
-pub is_datagram : (settings : Settings) (last next : ℕ) (datagram : List ℕ) (from : ℕ) (d : Delivery) (contents : List Content) → Holds settings last next datagram from d contents → length datagram ≤ from → IsDatagram datagram contents
-is_datagram settings last next datagram from d contents h over = record {
+pub is_datagram : (datagram : List ℕ) (from : ℕ) (said : Said) (contents : List Content) → Holds datagram from said contents → length datagram ≤ from → IsDatagram datagram contents
+is_datagram datagram from said contents h over = record {
   are_contents = h.are_contents;
   whole = h.whole ∙ ap (λ t. datagram_of contents ++ t) (drop_all from datagram over) ∙ append-nil (datagram_of contents);
 }
 
-pub head_fault : (settings : Settings) (last next : ℕ) (datagram : List ℕ) (from : ℕ) (d : Delivery) (contents : List Content) (m : Malformed) → Holds settings last next datagram from d contents → BeginsNoBlock datagram from m → DatagramFault datagram m.offset m.cause
-head_fault settings last next datagram from d contents m h none = record {
+pub head_fault : (datagram : List ℕ) (from : ℕ) (said : Said) (contents : List Content) (m : Malformed) → Holds datagram from said contents → BeginsNoBlock datagram from m → DatagramFault datagram m.offset m.cause
+head_fault datagram from said contents m h none = record {
   prefix = contents;
   rest = drop from datagram;
   inside = none.inside;
@@ -106,8 +90,8 @@ head_fault settings last next datagram from d contents m h none = record {
   offset_is = omega (arith, none.offset_is, h.place);
 }
 
-pub records_fault : (settings : Settings) (last next : ℕ) (datagram : List ℕ) (from : ℕ) (d : Delivery) (contents : List Content) (block : Block) (m : Malformed) → Holds settings last next datagram from d contents → BeginsBlock datagram from block → IsFaultOfBlock block m → DatagramFault datagram m.offset m.cause
-records_fault settings last next datagram from d contents block m h begins fault =
+pub records_fault : (datagram : List ℕ) (from : ℕ) (said : Said) (contents : List Content) (block : Block) (m : Malformed) → Holds datagram from said contents → BeginsBlock datagram from block → IsFaultOfBlock block m → DatagramFault datagram m.offset m.cause
+records_fault datagram from said contents block m h begins fault =
     let back = sym fault.category in
     let same : data_block block ≡ record { category = category_of fault.uap; body = block.body.now } = λ i. record { category = back i; body = block.body.now } in
     let rest = drop (block.at + length block.body.now) datagram in
@@ -137,9 +121,3 @@ pub same_malformed : (datagram : List ℕ) (x m : Malformed) → DatagramFault d
 same_malformed datagram x m h k =
     let same = first_fault datagram x.offset x.cause m.offset m.cause h k in
     λ i. record { offset = same.0 i; cause = same.1 i }
-
--- the event of what it holds
-pub held : (settings : Settings) (last next : ℕ) (datagram : List ℕ) (from : ℕ) (d : Delivery) (contents : List Content) → Holds settings last next datagram from d contents → (feed : ℕ) → IsDelivery settings last next feed contents (Deliver feed d.admitted d.outcomes d.other)
-held settings last next datagram from d contents h feed =
-    let same : delivery settings last next feed contents ≡ Deliver feed d.admitted d.outcomes d.other = λ i. Deliver feed (sym h.brings.admitted i) (sym h.brings.outcomes i) (sym h.other i) in
-    subst (IsDelivery settings last next feed contents) same (is_delivery settings last next feed contents)

@@ -8,7 +8,7 @@ use Rattle.admission_log.specs.declared.events.Outcome.{Outcome}
 use Rattle.admission_log.specs.declared.events.Outcome.TheVariants as outcomes
 use Rattle.admission_log.specs.declared.events.Event.{Event}
 use Rattle.admission_log.specs.declared.events.Event.TheVariants.{Deliver}
-use Rattle.admission_log.specs.Messages.{Message, report, service, messages_of, other_count}
+use Rattle.admission_log.specs.Messages.{Message, report, service, Said, said_by}
 use Rattle.admission_log.specs.Outcomes.{judged_report, outcome_of, counted_radar}
 use Rattle.admission_log.specs.Histories.{History, appended, last_of, next_of}
 
@@ -34,11 +34,15 @@ pub record AreJudged (settings : Settings) (last next : ℕ) (messages : List Me
 abbrev pub delivered : ℕ → List (Result Admitted Outcome) → ℕ → Event
 delivered feed js other = Deliver feed (filter_map admitted_by js) (map outcome_of js) other
 
--- The event is that of a datagram of these blocks.
-pub record IsDelivery (settings : Settings) (last next feed : ℕ) (contents : List Content) (event : Event) : Type 0 where
+-- The event is that of a datagram that says this.
+pub record IsDeliveryOf (settings : Settings) (last next feed : ℕ) (said : Said) (event : Event) : Type 0 where
   pub judgements : List (Result Admitted Outcome)
-  pub are_judged : AreJudged settings last next (messages_of contents) judgements
-  pub event_is : event ≡ delivered feed judgements (other_count contents)
+  pub are_judged : AreJudged settings last next said.messages judgements
+  pub event_is : event ≡ delivered feed judgements said.other
+
+-- .. of a datagram of these blocks
+abbrev pub IsDelivery : Settings → ℕ → ℕ → ℕ → List Content → Event → Type 0
+IsDelivery settings last next feed contents event = IsDeliveryOf settings last next feed (said_by contents) event
 
 -- .. to a log
 abbrev pub IsDeliveryTo : Settings → History → ℕ → List Content → Event → Type 0
@@ -49,9 +53,13 @@ abbrev pub outcomes_in : Event → List Outcome
 outcomes_in (Deliver feed admitted told other) = told
 outcomes_in _ = []
 
--- A log has one event more, that of a datagram of these blocks, and this is told of its messages.
-pub record Delivers (settings : Settings) (feed : ℕ) (contents : List Content) (old new : History) (told : List Outcome) : Type 0 where
+-- A log has one event more, that of a datagram that says this, and this is told of its messages.
+pub record DeliversOf (settings : Settings) (feed : ℕ) (said : Said) (old new : History) (told : List Outcome) : Type 0 where
   pub event : Event
-  pub is_delivery : IsDeliveryTo settings old feed contents event
+  pub is_delivery : IsDeliveryOf settings (last_of old) (next_of old) feed said event
   pub new_is : new ≡ appended old event
   pub told_is : told ≡ outcomes_in event
+
+-- .. of a datagram of these blocks
+abbrev pub Delivers : Settings → ℕ → List Content → History → History → List Outcome → Type 0
+Delivers settings feed contents old new told = DeliversOf settings feed (said_by contents) old new told

@@ -2,10 +2,12 @@ pub mod Sources
 pub mod Histories
 pub mod Outcomes
 pub mod Messages
+pub mod ReadMessages
 pub mod Deliveries
 pub mod Brought
 pub mod Changes
 pub mod Legality
+pub mod Summaries
 pub mod Logs
 pub mod Entries
 pub mod EntryOrder

@@ -1,4 +1,4 @@
--- The messages of a datagram, by its blocks: target reports and radar service messages.
+-- What a datagram says: its messages, by its blocks, which are target reports and radar service messages.
 use Rattle.std.specs.Prelude.{ℕ, Bool, true, false, List, [], map, count_by}
 use Rattle.std.specs.List.{flat_map}
 use Rattle.asterix_frame.specs.declared.tables.Uap.TheVariants.{Cat034, Cat048}
@@ -29,3 +29,11 @@ is_other _ = false
 -- how many there are
 abbrev pub other_count : List Content → ℕ
 other_count contents = count_by is_other contents
+
+-- its messages, in order, and how many of its blocks were passed over
+pub record Said : Type 0 where
+  pub messages : List Message
+  pub other : ℕ
+
+abbrev pub said_by : List Content → Said
+said_by contents = record { messages = messages_of contents; other = other_count contents }

@@ -5,25 +5,23 @@ ghost use Rattle.asterix_frame.specs.Answers.{IfMalformed, AnswersWith, RefusesW
 ghost use Rattle.asterix_frame.specs.Datagrams.{Content, IsDatagram, DatagramFault};
 ghost use Rattle.trk_base.specs.Limits.{count_limit};
 ghost use Rattle.admission_log.specs.Histories.{admitted_in};
-ghost use Rattle.admission_log.specs.Deliveries.{IsDelivery};
+ghost use Rattle.admission_log.specs.Deliveries.{IsDelivery, IsDeliveryOf};
 
 use crate::judging::{admission, counted_radar};
-use crate::{AdmitError, Admitted, Event, Outcome, Settings};
-use asterix_frame::{Block, first_block};
-use cat034_in::{Service, read034};
-use cat048_in::{Report, read048};
+use crate::messages::BlockMessages;
+use crate::{AdmitError, Admitted, Event, Messages, Outcome, Settings, read_messages};
+use cat034_in::Service;
+use cat048_in::Report;
 use std::alloc::Global;
 use trk_base::{COUNT_LIMIT, NoMemory, Sequence};
 
-// What a datagram has brought so far.
+// What messages have brought so far.
 #[derive(Drop)]
 pub(crate) struct Delivery {
     // The arrival of the next plot that is admitted.
     next: u64,
-    admitted: Sequence<Admitted>,
-    outcomes: Sequence<Outcome>,
-    // How many blocks were passed over.
-    other: u32,
+    admitted: Vec<Admitted>,
+    outcomes: Vec<Outcome>,
 }
 
 /// The event of a datagram that came from a feed after a last tick, where the next plot that is
@@ -52,73 +50,76 @@ pub fn deliver(
     // No arrival reaches the limit.
     ensures arrivals { next ≤ count_limit → IfOk result (λ e. next + length (admitted_in e) ≤ count_limit) }
 {
+    let messages = read_messages(alloc, datagram)?;
+    let event = judge_messages(alloc, settings, last, next, feed, &messages)?;
+    Ok(event)
+}
+
+/// The event of a datagram that was read, which came from a feed after a last tick, where the next
+/// plot that is admitted has the arrival `next`.
+pub fn judge_messages(
+    alloc: Global,
+    settings: &Settings,
+    last: u64,
+    next: u64,
+    feed: u8,
+    messages: &Messages,
+) -> Result<Event, NoMemory>
+    requires { last < 2 ^ 40 }
+    ensures delivered { IfOk result (λ e. IsDeliveryOf settings.now last next feed messages.now e) }
+
+    // No arrival reaches the limit.
+    ensures arrivals { next ≤ count_limit → IfOk result (λ e. next + length (admitted_in e) ≤ count_limit) }
+{
     let mut delivery = Delivery {
         next,
-        admitted: Sequence::new(alloc),
-        outcomes: Sequence::new(alloc),
-        other: 0,
+        admitted: Vec::new(alloc),
+        outcomes: Vec::new(alloc),
     };
-    let mut from = 0;
-    while from < datagram.len() {
-        let block = first_block(datagram, from)?;
-        delivery.add_block(alloc, settings, last, &block)?;
-        from = block.end();
+    let blocks = messages.blocks.as_slice();
+    for block in blocks {
+        delivery.add_block(settings, last, block)?;
     }
     let Delivery {
         admitted,
         outcomes,
-        other,
         ..
     } = delivery;
     Ok(Event::Deliver {
         feed,
-        admitted,
-        outcomes,
-        other,
+        admitted: Sequence::of(admitted),
+        outcomes: Sequence::of(outcomes),
+        other: messages.other,
     })
 }
 
 impl Delivery {
     ghost use Rattle.std.specs.Prelude.{◌≡◌, ◌<◌, ◌^◌, ℕ, [], ◌∷◌, map, OnOk};
-    ghost use Rattle.asterix_frame.specs.Blocks.{IsDataBlock};
-    ghost use Rattle.asterix_frame.specs.Offsets.{data_block};
-    ghost use Rattle.asterix_frame.specs.Answers.{IfMalformed};
-    ghost use Rattle.asterix_frame.specs.Datagrams.{Content, IsContent, block_of};
     ghost use Rattle.admission_log.specs.Messages.{report, service};
-    ghost use Rattle.admission_log.specs.Brought.{Brings, BringsMessages, BringsBlock, IsFaultOfBlock};
+    ghost use Rattle.admission_log.specs.ReadMessages.{messages_kept};
+    ghost use Rattle.admission_log.specs.Brought.{Brings, BringsMessages};
 
-    // Takes the messages of a block.
+    // Judges the messages of a block.
     fn add_block(
         &mut self,
-        alloc: Global,
         settings: &Settings,
         last: u64,
-        block: &Block<'_>,
-    ) -> Result<(), AdmitError>
-        requires in_time { last < 2 ^ 40 }
-        requires few { self.old.other < 65535 }
-        requires is_block { IsDataBlock (data_block block.now) }
-        ensures read { OnOk result ((c : Content) × IsContent c × (block_of c ≡ data_block block.now) × BringsBlock settings.now last c self.old self.new) }
-        ensures malformed { IfMalformed result (λ m. IsFaultOfBlock block.now m) }
+        block: &BlockMessages,
+    ) -> Result<(), NoMemory>
+        requires { last < 2 ^ 40 }
+        ensures { OnOk result (BringsMessages settings.now last (messages_kept block.now) self.old self.new) }
     {
-        match block.cat {
-            34 => {
-                let services = read034(alloc, block)?;
-                self.add_services(settings, &services)?;
-            }
-            48 => {
-                let reports = read048(alloc, block)?;
-                self.add_reports(settings, last, &reports)?;
-            }
-            _ => self.other += 1,
+        match block {
+            BlockMessages::Services(services) => self.add_services(settings, services.as_slice()),
+            BlockMessages::Reports(reports) => self.add_reports(settings, last, reports.as_slice()),
         }
-        Ok(())
     }
 
-    // Takes service messages.
+    // Judges service messages.
     fn add_services(&mut self, settings: &Settings, services: &[Service]) -> Result<(), NoMemory>
         ensures { OnOk result ((last : ℕ) → BringsMessages settings.now last (map service services.now) self.old self.new) }
     {
+        self.outcomes.reserve(services.len())?;
         for service in services {
             let radar = counted_radar(settings, service.source, service.kind);
             self.add(Err(Outcome::Service(radar)))?;
@@ -126,7 +127,7 @@ impl Delivery {
         Ok(())
     }
 
-    // Takes target reports.
+    // Judges target reports.
     fn add_reports(
         &mut self,
         settings: &Settings,
@@ -136,6 +137,8 @@ impl Delivery {
         requires { last < 2 ^ 40 }
         ensures { OnOk result (BringsMessages settings.now last (map report reports.now) self.old self.new) }
     {
+        self.outcomes.reserve(reports.len())?;
+        self.admitted.reserve(reports.len())?;
         for report in reports {
             self.add(admission(settings, last, self.next, report))?;
         }
@@ -144,8 +147,7 @@ impl Delivery {
 
     // Takes what was judged of one message.
     fn add(&mut self, judged: Result<Admitted, Outcome>) -> Result<(), NoMemory>
-        ensures brings { OnOk result (Brings (judged ∷ []) self.old self.new) }
-        ensures other { self.new.other ≡ self.old.other }
+        ensures { OnOk result (Brings (judged ∷ []) self.old self.new) }
     {
         match judged {
             Ok(admitted) => {

@@ -8,12 +8,14 @@ mod events;
 mod judging;
 mod laws;
 mod log;
+mod messages;
 mod plots;
 mod settings;
+mod summary;
 #[cfg(test)]
 mod tests;
 
-pub use delivery::deliver;
+pub use delivery::{deliver, judge_messages};
 pub use entries::Entry;
 pub use events::{AdmitError, Admitted, BiasError, Event, Outcome, Receipt, TickError};
 pub use judging::{AHEAD_LIMIT, judge, judge_bias};
@@ -22,5 +24,7 @@ pub use laws::{
     one_rising_order, own_keys,
 };
 pub use log::Log;
+pub use messages::{Messages, read_messages};
 pub use plots::plots_of;
 pub use settings::{RADAR_LIMIT, Settings, radar_of};
+pub use summary::LogSummary;

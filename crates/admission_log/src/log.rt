@@ -6,30 +6,27 @@ ghost use Rattle.asterix_frame.specs.Answers.{IfMalformed, AnswersWith, RefusesW
 ghost use Rattle.asterix_frame.specs.Datagrams.{Content, IsDatagram, DatagramFault};
 ghost use Rattle.admission_log.specs.declared.settings.Settings.{Settings};
 ghost use Rattle.admission_log.specs.declared.events.Event.TheVariants as events;
-ghost use Rattle.admission_log.specs.Histories.{appended, last_of, next_of, published_of, cut_of, admitted_in};
-ghost use Rattle.admission_log.specs.Deliveries.{Delivers, outcomes_in};
+ghost use Rattle.admission_log.specs.Histories.{appended, last_of, next_of, published_of, cut_of};
+ghost use Rattle.admission_log.specs.Deliveries.{Delivers, DeliversOf, outcomes_in};
 ghost use Rattle.admission_log.specs.Changes.{IsOpenChange, IsRefusal};
 ghost use Rattle.admission_log.specs.Legality.{IsLegal};
+ghost use Rattle.admission_log.specs.Summaries.{summary_of};
 
 use crate::{
-    AdmitError, BiasError, Event, Outcome, Receipt, Settings, TickError, deliver, judge_bias,
+    AdmitError, BiasError, Event, LogSummary, Messages, Outcome, Receipt, Settings, TickError,
+    read_messages,
 };
 use plot_geometry::Bias;
 use std::alloc::Global;
 use std::marker::Model;
-use trk_base::{COUNT_LIMIT, NoMemory, Sequence, TryCopy};
+use trk_base::{NoMemory, Sequence, TryCopy};
 
-/// The one log: where it starts, and the events since. What is asked of it at each event is kept
-/// beside them, so no call goes over the events.
+/// The one log: its events, and beside them their summary, so no call goes over the events.
 #[derive(Debug, Drop)]
 pub struct Log {
     alloc: Global,
-    start: u64,
+    summary: LogSummary,
     events: Sequence<Event>,
-    last: u64,
-    next: u64,
-    published: u64,
-    cut: u64,
 }
 
 impl Model for Log {
@@ -53,12 +50,8 @@ impl Log {
     {
         Log {
             alloc,
-            start,
+            summary: LogSummary::new(start),
             events: Sequence::new(alloc),
-            last: start,
-            next: 0,
-            published: 0,
-            cut: 0,
         }
     }
 
@@ -66,7 +59,7 @@ impl Log {
     pub fn start(&self) -> u64
         ensures { result ≡ self.now.start }
     {
-        self.start
+        self.summary.start()
     }
 
     /// Its last tick, in 1/128 s: the greatest, or the start where there is none.
@@ -74,7 +67,7 @@ impl Log {
         ensures value { result ≡ last_of self.now }
         ensures in_time { result < 2 ^ 40 }
     {
-        self.last
+        self.summary.last()
     }
 
     /// The arrival of the next plot that is admitted, which is how many were admitted.
@@ -82,7 +75,7 @@ impl Log {
         ensures value { result ≡ next_of self.now }
         ensures few { result ≤ count_limit }
     {
-        self.next
+        self.summary.next()
     }
 
     /// The number of the last edition that was published, or 0 where there is none.
@@ -90,7 +83,7 @@ impl Log {
         ensures value { result ≡ published_of self.now }
         ensures few { result < count_limit }
     {
-        self.published
+        self.summary.published()
     }
 
     /// How many events the last edition shows that was published, or 0 where there is none.
@@ -98,7 +91,7 @@ impl Log {
         ensures value { result ≡ cut_of self.now }
         ensures within { result ≤ length self.now.events }
     {
-        self.cut
+        self.summary.cut()
     }
 
     /// Its events, in order.
@@ -144,12 +137,32 @@ impl Log {
         ensures index_limit { IfOk result (λ r. r.at < count_limit) }
         ensures arrival_limit { OnOk result (next_of self.new ≤ count_limit) }
     {
-        let event = deliver(self.alloc, settings, self.last, self.next, feed, datagram)?;
-        let at = self.next_index()?;
-        let admitted = admitted_count(&event);
+        let messages = read_messages(self.alloc, datagram)?;
+        let receipt = self.admit_messages(settings, feed, &messages)?;
+        Ok(receipt)
+    }
+
+    /// Admits a datagram that was read and came from a feed, and answers the index of its event and
+    /// what became of each of its messages. After an error the log is as it was.
+    pub fn admit_messages(
+        &mut self,
+        settings: &Settings,
+        feed: u8,
+        messages: &Messages,
+    ) -> Result<Receipt, NoMemory>
+        ensures index { IfOk result (λ r. r.at ≡ length self.old.events) }
+        ensures delivered { IfOk result (λ r. DeliversOf settings.now feed messages.now self.old self.new r.outcomes) }
+        ensures err { OnErr result (self.new ≡ self.old) }
+        ensures legal { IsLegal settings.now self.old → IsLegal settings.now self.new }
+
+        // No index and no arrival reaches the limit.
+        ensures index_limit { IfOk result (λ r. r.at < count_limit) }
+        ensures arrival_limit { OnOk result (next_of self.new ≤ count_limit) }
+    {
+        let mut summary = self.summary;
+        let event = summary.admit_messages(self.alloc, settings, feed, messages)?;
         let outcomes = outcomes_of(self.alloc, &event)?;
-        self.events.push(event)?;
-        self.next += admitted;
+        let at = self.keep(event, summary)?;
         Ok(Receipt { at, outcomes })
     }
 
@@ -167,12 +180,9 @@ impl Log {
         ensures err { OnErr result (self.new ≡ self.old) }
         ensures legal { (settings : Settings) → IsLegal settings self.old → IsLegal settings self.new }
     {
-        if time <= self.last {
-            return Err(TickError::Old { last: self.last });
-        }
-        let index = self.next_index()?;
-        self.events.push(Event::Tick(time))?;
-        self.last = time;
+        let mut summary = self.summary;
+        let event = summary.tick(time)?;
+        let index = self.keep(event, summary)?;
         Ok(index)
     }
 
@@ -197,9 +207,9 @@ impl Log {
         ensures err { OnErr result (self.new ≡ self.old) }
         ensures legal { IsLegal settings.now self.old → IsLegal settings.now self.new }
     {
-        judge_bias(settings, self.last, radar, slot)?;
-        let index = self.next_index()?;
-        self.events.push(Event::Bias { radar, slot, bias })?;
+        let mut summary = self.summary;
+        let event = summary.bias(settings, radar, slot, bias)?;
+        let index = self.keep(event, summary)?;
         Ok(index)
     }
 
@@ -216,36 +226,23 @@ impl Log {
         ensures err { OnErr result (self.new ≡ self.old) }
         ensures legal { (settings : Settings) → IsLegal settings self.old → IsLegal settings self.new }
     {
-        if number >= COUNT_LIMIT {
-            return Err(NoMemory);
-        }
-        let index = self.next_index()?;
-        self.events.push(Event::Publish { number, cut })?;
-        self.published = number;
-        self.cut = cut;
-        Ok(index)
+        let mut summary = self.summary;
+        let event = summary.publish(number, cut)?;
+        self.keep(event, summary)
     }
 
-    // The index of the next event.
-    fn next_index(&self) -> Result<u64, NoMemory>
-        ensures index { IfOk result (λ index. index ≡ length self.now.events) }
-        ensures limit { IfOk result (λ index. index < count_limit) }
+    // Keeps an event and the summary after it, and answers the event's index.
+    fn keep(&mut self, event: Event, summary: LogSummary) -> Result<u64, NoMemory>
+        requires { summary ≡ summary_of (appended self.old event) }
+        ensures index { IfOk result (λ index. index ≡ length self.old.events) }
+        ensures index_limit { IfOk result (λ index. index < count_limit) }
+        ensures ok { OnOk result (self.new ≡ appended self.old event) }
+        ensures err { OnErr result (self.new ≡ self.old) }
     {
-        let index = self.events.len() as u64;
-        if index >= COUNT_LIMIT {
-            return Err(NoMemory);
-        }
+        let index = summary.count() - 1;
+        self.events.push(event)?;
+        self.summary = summary;
         Ok(index)
-    }
-}
-
-// How many plots an event admits.
-fn admitted_count(event: &Event) -> u64
-    ensures { result ≡ length (admitted_in event.now) }
-{
-    match event {
-        Event::Deliver { admitted, .. } => admitted.len() as u64,
-        _ => 0,
     }
 }
 

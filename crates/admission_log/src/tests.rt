@@ -57,29 +57,21 @@ fn service(sic: u8, kind: u8) -> [u8; 10] {
     [0x22, 0, 10, 0xE0, 1, sic, kind, 0x46, 0x50, 0]
 }
 
-// What becomes of a datagram's one message.
-fn outcome_of(log: &mut Log, settings: &Settings, datagram: &[u8]) -> Option<Outcome>
-    requires { length datagram.now ≤ 65535 }
-{
-    match log.admit(settings, 0, datagram) {
-        Ok(receipt) => match receipt.outcomes.as_slice() {
-            [outcome] => Some(*outcome),
-            _ => None,
-        },
-        Err(_) => None,
-    }
-}
-
 // What one thread makes and others may read and drop.
 fn crosses_threads<T: Send + Sync>(_: &T) {}
+
+// Whether radars are found by their sources alone.
+fn finds_radars(settings: &Settings) -> bool {
+    settings.radar(1, 1) == Some(0)
+        && settings.radar(1, 2).is_none()
+        && settings.radar(2, 1).is_none()
+}
 
 #[test]
 fn finds_radars_and_copies(rt: HostRuntime) -> Result<(), Fail> {
     let settings = settings_with(rt.alloc(), 0)?;
-    for (sac, sic, index) in [(1, 1, Some(0)), (1, 2, None), (2, 1, None)] {
-        assert_eq!(rt; settings.radar(sac, sic), index);
-    }
-    assert!(rt; settings.copy(rt.alloc())? == settings);
+    let copy = settings.copy(rt.alloc())?;
+    assert!(rt; finds_radars(&settings) && copy == settings);
     crosses_threads(&settings);
     Ok(())
 }
@@ -106,16 +98,31 @@ const FAULTS: [(&[u8], usize, u8); 10] = [
     ),
 ];
 
+// Whether each datagram is refused by its fault.
+fn are_refused(log: &mut Log, settings: &Settings, rows: &[(&[u8], usize, u8)]) -> bool {
+    for (datagram, offset, cause) in rows {
+        let fault = Malformed {
+            offset: *offset,
+            cause: *cause,
+        };
+        if !is_refused(log, settings, datagram, fault) {
+            return false;
+        }
+    }
+    true
+}
+
+// .. this one.
+fn is_refused(log: &mut Log, settings: &Settings, datagram: &[u8], fault: Malformed) -> bool {
+    datagram.len() <= 65_535
+        && log.admit(settings, 0, datagram).err() == Some(AdmitError::Malformed(fault))
+}
+
 #[test]
 fn tells_the_first_fault(rt: HostRuntime) -> Result<(), Fail> {
     let settings = settings_with(rt.alloc(), 0)?;
     let mut log = Log::new(rt.alloc(), START);
-    for (datagram, offset, cause) in FAULTS {
-        assert!(rt; datagram.len() <= 65_535);
-        let got = log.admit(&settings, 0, datagram).err();
-        let fault = Malformed { offset, cause };
-        assert_eq!(rt; got, Some(AdmitError::Malformed(fault)));
-    }
+    assert!(rt; are_refused(&mut log, &settings, &FAULTS));
     assert!(rt; log.events().is_empty());
     Ok(())
 }
@@ -137,65 +144,101 @@ const WITHOUT_PLOTS: [(&[u8], Option<Outcome>, u32); 5] = [
     ),
 ];
 
+// Whether each such datagram has its event, read at once and apart from the log.
+fn have_events(
+    alloc: Global,
+    settings: &Settings,
+    rows: &[(&[u8], Option<Outcome>, u32)],
+) -> Result<bool, AdmitError> {
+    for (datagram, outcome, other) in rows {
+        let want = event_without_plots(alloc, *outcome, *other)?;
+        if !has_event(alloc, settings, datagram, &want)? {
+            return Ok(false);
+        }
+    }
+    Ok(true)
+}
+
+// The event of a datagram without plots.
+fn event_without_plots(
+    alloc: Global,
+    outcome: Option<Outcome>,
+    other: u32,
+) -> Result<Event, NoMemory> {
+    let mut outcomes = Sequence::new(alloc);
+    if let Some(outcome) = outcome {
+        outcomes.push(outcome)?;
+    }
+    Ok(Event::Deliver {
+        feed: 3,
+        admitted: Sequence::new(alloc),
+        outcomes,
+        other,
+    })
+}
+
+// Whether a datagram has this event.
+fn has_event(
+    alloc: Global,
+    settings: &Settings,
+    datagram: &[u8],
+    want: &Event,
+) -> Result<bool, AdmitError> {
+    if datagram.len() > 65_535 {
+        return Ok(false);
+    }
+    let messages = read_messages(alloc, datagram)?;
+    let judged = judge_messages(alloc, settings, START, 0, 3, &messages)?;
+    let delivered = deliver(alloc, settings, START, 0, 3, datagram)?;
+    Ok(judged == *want && delivered == *want)
+}
+
 #[test]
 fn admits_what_has_no_plots(rt: HostRuntime) -> Result<(), Fail> {
-    let alloc = rt.alloc();
-    let settings = settings_with(alloc, 0)?;
-    for (datagram, outcome, other) in WITHOUT_PLOTS {
-        assert!(rt; datagram.len() <= 65_535);
-        let event = deliver(alloc, &settings, START, 0, 3, datagram)?;
-        let mut outcomes = Sequence::new(alloc);
-        if let Some(outcome) = outcome {
-            outcomes.push(outcome)?;
-        }
-        let want = Event::Deliver {
-            feed: 3,
-            admitted: Sequence::new(alloc),
-            outcomes,
-            other,
-        };
-        assert!(rt; event == want);
-    }
+    let settings = settings_with(rt.alloc(), 0)?;
+    assert!(rt; have_events(rt.alloc(), &settings, &WITHOUT_PLOTS)?);
     Ok(())
+}
+
+// Three reports, of the radars (1, 1), (1, 2) and (1, 1).
+const THREE_REPORTS: [u8; 36] = [
+    0x30, 0, 36, 0xF0, 1, 1, 0x46, 0x50, 10, 0xA0, 1, 0, 0, 0, 0xF0, 1, 2, 0x46, 0x50, 10, 0xA0, 1,
+    0, 0, 0, 0xF0, 1, 1, 0x46, 0x50, 10, 0xA0, 1, 0, 0, 0,
+];
+
+// Whether the first and the third of them are admitted.
+fn are_known(log: &Log, receipt: &Receipt) -> bool {
+    let told = [
+        Outcome::Admitted(0),
+        Outcome::UnknownRadar,
+        Outcome::Admitted(1),
+    ];
+    let Some(Event::Deliver { admitted, .. }) = log.events().first() else {
+        return false;
+    };
+    let [one, two] = admitted.as_slice() else {
+        return false;
+    };
+    receipt.at == 0
+        && receipt.outcomes.as_slice() == told.as_slice()
+        && log.next() == 2
+        && is_of_report(one, 0)
+        && is_of_report(two, 1)
+}
+
+// Whether a plot is that of such a report, under an arrival.
+fn is_of_report(admitted: &Admitted, arrival: u64) -> bool {
+    let plot = admitted.plot;
+    (admitted.arrival, admitted.radar, admitted.time) == (arrival, 0, 4_608_010)
+        && (plot.sic, plot.tod, plot.rho, plot.kind) == (1, 4_608_010, 256, 5)
 }
 
 #[test]
 fn admits_the_known_among_unknown(rt: HostRuntime) -> Result<(), Fail> {
     let settings = settings_with(rt.alloc(), 0)?;
     let mut log = Log::new(rt.alloc(), START);
-    let receipt = log.admit(
-        &settings,
-        0,
-        &[
-            0x30, 0, 36, 0xF0, 1, 1, 0x46, 0x50, 10, 0xA0, 1, 0, 0, 0, 0xF0, 1, 2, 0x46, 0x50, 10,
-            0xA0, 1, 0, 0, 0, 0xF0, 1, 1, 0x46, 0x50, 10, 0xA0, 1, 0, 0, 0,
-        ],
-    )?;
-    assert_eq!(rt; receipt.at, 0);
-    assert!(rt;
-        receipt.outcomes.as_slice()
-            == [
-                Outcome::Admitted(0),
-                Outcome::UnknownRadar,
-                Outcome::Admitted(1)
-            ]
-            .as_slice()
-    );
-    assert_eq!(rt; log.next(), 2);
-    let Some(Event::Deliver { admitted, .. }) = log.events().first() else {
-        assert!(rt; false);
-        return Ok(());
-    };
-    let [one, two] = admitted.as_slice() else {
-        assert!(rt; false);
-        return Ok(());
-    };
-    assert_eq!(rt; (one.arrival, one.radar, one.time), (0, 0, 4_608_010));
-    assert_eq!(rt; (two.arrival, two.radar, two.time), (1, 0, 4_608_010));
-    assert_eq!(rt;
-        (two.plot.sic, two.plot.tod, two.plot.rho, two.plot.kind),
-        (1, 4_608_010, 256, 5)
-    );
+    let receipt = log.admit(&settings, 0, &THREE_REPORTS)?;
+    assert!(rt; are_known(&log, &receipt));
     Ok(())
 }
 
@@ -219,14 +262,25 @@ const WINDOW: [(u32, Outcome); 4] = [
     (4_608_640, Outcome::Admitted(7)),
 ];
 
+// Whether each report has its outcome after a tick at 4,608,128.
+fn have_outcomes(
+    alloc: Global,
+    settings: &Settings,
+    rows: &[(u32, Outcome)],
+) -> Result<bool, AdmitError> {
+    for (tod, outcome) in rows {
+        let event = deliver(alloc, settings, 4_608_128, 7, 0, &report(1, *tod))?;
+        if first_outcome(&event) != Some(*outcome) {
+            return Ok(false);
+        }
+    }
+    Ok(true)
+}
+
 #[test]
 fn keeps_the_edges_of_the_window(rt: HostRuntime) -> Result<(), Fail> {
-    let alloc = rt.alloc();
-    let settings = settings_with(alloc, 0)?;
-    for (tod, outcome) in WINDOW {
-        let event = deliver(alloc, &settings, 4_608_128, 7, 0, &report(1, tod))?;
-        assert!(rt; first_outcome(&event) == Some(outcome));
-    }
+    let settings = settings_with(rt.alloc(), 0)?;
+    assert!(rt; have_outcomes(rt.alloc(), &settings, &WINDOW)?);
     Ok(())
 }
 
@@ -255,28 +309,55 @@ const TIMES: [(u64, i16, u32, u64); 4] = [
     (0, 10, 5, 0),
 ];
 
+// Whether each report has its time, and its event a copy.
+fn have_times(alloc: Global, rows: &[(u64, i16, u32, u64)]) -> Result<bool, AdmitError> {
+    for (last, time_bias, tod, time) in rows {
+        if *last >= 1 << 40 || time_bias.unsigned_abs() > 1280 {
+            return Ok(false);
+        }
+        let settings = settings_with(alloc, *time_bias)?;
+        let event = deliver(alloc, &settings, *last, 0, 0, &report(1, *tod))?;
+        if time_of(&event) != Some(*time) || event.copy(alloc)? != event {
+            return Ok(false);
+        }
+    }
+    Ok(true)
+}
+
 #[test]
 fn counts_on_over_midnight_and_frees_of_bias(rt: HostRuntime) -> Result<(), Fail> {
-    let alloc = rt.alloc();
-    for (last, time_bias, tod, time) in TIMES {
-        assert!(rt; last < 1 << 40 && time_bias.unsigned_abs() <= 1280);
-        let settings = settings_with(alloc, time_bias)?;
-        let event = deliver(alloc, &settings, last, 0, 0, &report(1, tod))?;
-        assert_eq!(rt; time_of(&event), Some(time));
-        assert!(rt; event.copy(alloc)? == event);
-    }
+    assert!(rt; have_times(rt.alloc(), &TIMES)?);
     assert_eq!(rt; slot_of(11_059_205), 172_800);
     Ok(())
+}
+
+// The SIC and the type of a service message, and the radar that it counts for.
+const SERVICES: [(u8, u8, Option<u8>); 4] = [
+    (1, 1, Some(0)),
+    (1, 2, Some(0)),
+    (1, 3, None),
+    (2, 1, None),
+];
+
+// Whether each service message counts for its radar.
+fn count_for(
+    alloc: Global,
+    settings: &Settings,
+    rows: &[(u8, u8, Option<u8>)],
+) -> Result<bool, AdmitError> {
+    for (sic, kind, radar) in rows {
+        let event = deliver(alloc, settings, START, 0, 0, &service(*sic, *kind))?;
+        if first_outcome(&event) != Some(Outcome::Service(*radar)) {
+            return Ok(false);
+        }
+    }
+    Ok(true)
 }
 
 #[test]
 fn counts_service_messages_of_two_types(rt: HostRuntime) -> Result<(), Fail> {
     let settings = settings_with(rt.alloc(), 0)?;
-    let mut log = Log::new(rt.alloc(), START);
-    for (sic, kind, radar) in [(1, 1, Some(0)), (1, 2, Some(0)), (1, 3, None), (2, 1, None)] {
-        let got = outcome_of(&mut log, &settings, &service(sic, kind));
-        assert_eq!(rt; got, Some(Outcome::Service(radar)));
-    }
+    assert!(rt; count_for(rt.alloc(), &settings, &SERVICES)?);
     Ok(())
 }
 
@@ -291,47 +372,207 @@ fn range_bias(range: i16) -> Bias
     }
 }
 
+// A call of a log.
+#[derive(Clone, Copy)]
+enum Call {
+    // A datagram of one report, by its time of day.
+    Report(u32),
+    Tick(u64),
+    // A number and a cut.
+    Publish(u64, u64),
+    // A radar, a slot and a bias of range.
+    Bias(u8, u64, i16),
+}
+
+// What it answers.
+#[derive(Clone, Copy, PartialEq)]
+enum Answer {
+    // The index of its event.
+    At(u64),
+    Tick(TickError),
+    Bias(BiasError),
+    // It isn't taken, or wasn't made.
+    Nothing,
+}
+
+// Calls of a log that starts at 4,608,000, and their answers.
+const CALLS: [(Call, Answer); 8] = [
+    (Call::Tick(4_608_128), Answer::At(0)),
+    (
+        Call::Tick(4_608_128),
+        Answer::Tick(TickError::Old { last: 4_608_128 }),
+    ),
+    (Call::Publish(1, 1), Answer::At(1)),
+    (
+        Call::Bias(1, 71_970, 2),
+        Answer::Bias(BiasError::UnknownRadar { radars: 1 }),
+    ),
+    (
+        Call::Bias(0, 71_969, 2),
+        Answer::Bias(BiasError::BeforeHorizon {
+            slot: 71_969,
+            low: 71_970,
+        }),
+    ),
+    (Call::Bias(0, 71_970, 2), Answer::At(2)),
+    (Call::Report(4_608_200), Answer::At(3)),
+    (Call::Publish(2, 4), Answer::At(4)),
+];
+
+// What a log answers to a call.
+fn answer_of(log: &mut Log, settings: &Settings, call: Call) -> Answer {
+    match call {
+        Call::Report(tod) => match log.admit(settings, 0, &report(1, tod)) {
+            Ok(receipt) => Answer::At(receipt.at),
+            Err(_) => Answer::Nothing,
+        },
+        Call::Tick(time) => tick(log, time),
+        Call::Publish(number, cut) => publish(log, number, cut),
+        Call::Bias(radar, slot, range) => bias(log, settings, radar, slot, range),
+    }
+}
+
+// .. to a tick.
+fn tick(log: &mut Log, time: u64) -> Answer {
+    if time >= 1 << 40 {
+        return Answer::Nothing;
+    }
+    match log.tick(time) {
+        Ok(index) => Answer::At(index),
+        Err(error) => Answer::Tick(error),
+    }
+}
+
+// .. to an edition.
+fn publish(log: &mut Log, number: u64, cut: u64) -> Answer {
+    let events = log.events().len() as u64;
+    if number != log.published() + 1 || cut < log.cut() || cut > events {
+        return Answer::Nothing;
+    }
+    match log.publish(number, cut) {
+        Ok(index) => Answer::At(index),
+        Err(_) => Answer::Nothing,
+    }
+}
+
+// .. to a change of biases.
+fn bias(log: &mut Log, settings: &Settings, radar: u8, slot: u64, range: i16) -> Answer {
+    if slot >= 1 << 34 || range.unsigned_abs() > 1000 {
+        return Answer::Nothing;
+    }
+    match log.bias(settings, radar, slot, range_bias(range)) {
+        Ok(index) => Answer::At(index),
+        Err(error) => Answer::Bias(error),
+    }
+}
+
+// Whether each call has its answer.
+fn have_answers(log: &mut Log, settings: &Settings, rows: &[(Call, Answer)]) -> bool {
+    for (call, want) in rows {
+        if answer_of(log, settings, *call) != *want {
+            return false;
+        }
+    }
+    true
+}
+
+// Whether the log has come to the end of those calls.
+fn has_come(log: &Log) -> bool {
+    (log.start(), log.last(), log.next()) == (START, 4_608_128, 1)
+        && (log.published(), log.cut()) == (2, 4)
+}
+
+// Whether the events but the datagram's are those of the calls, and all have a copy.
+fn are_events(alloc: Global, events: Vec<Event>) -> Result<bool, NoMemory> {
+    let events = Sequence::of(events);
+    let copy = events.copy(alloc)?;
+    let [tick, first, change, _, second] = copy.as_slice() else {
+        return Ok(false);
+    };
+    let bias = Event::Bias {
+        radar: 0,
+        slot: 71_970,
+        bias: range_bias(2),
+    };
+    Ok(
+        *tick == Event::Tick(4_608_128)
+            && *first == Event::Publish { number: 1, cut: 1 }
+            && *change == bias
+            && *second == Event::Publish { number: 2, cut: 4 }
+            && copy == events,
+    )
+}
+
 #[test]
 fn takes_ticks_editions_and_biases(rt: HostRuntime) -> Result<(), Fail> {
-    let alloc = rt.alloc();
-    let settings = settings_with(alloc, 0)?;
-    let mut log = Log::new(alloc, START);
-    assert_eq!(rt; log.tick(4_608_128)?, 0);
-    assert_eq!(rt;
-        log.tick(4_608_128),
-        Err(TickError::Old { last: 4_608_128 })
-    );
-    assert_eq!(rt; log.publish(1, 1)?, 1);
-    assert_eq!(rt;
-        log.bias(&settings, 1, 71_970, range_bias(2)),
-        Err(BiasError::UnknownRadar { radars: 1 })
-    );
-    assert_eq!(rt;
-        log.bias(&settings, 0, 71_969, range_bias(2)),
-        Err(BiasError::BeforeHorizon {
-            slot: 71_969,
-            low: 71_970
-        })
-    );
-    assert_eq!(rt; log.bias(&settings, 0, 71_970, range_bias(2))?, 2);
-    assert_eq!(rt;
-        (log.start(), log.last(), log.next()),
-        (START, 4_608_128, 0)
-    );
-    assert_eq!(rt; (log.published(), log.cut()), (1, 1));
+    let settings = settings_with(rt.alloc(), 0)?;
+    let mut log = Log::new(rt.alloc(), START);
+    assert!(rt; have_answers(&mut log, &settings, &CALLS) && has_come(&log));
     crosses_threads(&log);
-    let want = vec![in alloc;
-        Event::Tick(4_608_128),
-        Event::Publish { number: 1, cut: 1 },
-        Event::Bias {
-            radar: 0,
-            slot: 71_970,
-            bias: range_bias(2)
-        },
-    ]?;
-    let got = Sequence::of(log.into_events());
-    assert!(rt; got.copy(alloc)?.into_vec() == want);
-    crosses_threads(&got);
+    assert!(rt; are_events(rt.alloc(), log.into_events())?);
+    Ok(())
+}
+
+// The event that a summary gives for a call, if it takes it.
+fn event_of(
+    alloc: Global,
+    summary: &mut LogSummary,
+    settings: &Settings,
+    call: Call,
+) -> Option<Event> {
+    match call {
+        Call::Report(tod) => summary.admit(alloc, settings, 0, &report(1, tod)).ok(),
+        Call::Tick(time) => {
+            if time >= 1 << 40 {
+                return None;
+            }
+            summary.tick(time).ok()
+        }
+        Call::Publish(number, cut) => {
+            if number != summary.published() + 1 || cut < summary.cut() || cut > summary.count() {
+                return None;
+            }
+            summary.publish(number, cut).ok()
+        }
+        Call::Bias(radar, slot, range) => {
+            if slot >= 1 << 34 || range.unsigned_abs() > 1000 {
+                return None;
+            }
+            summary.bias(settings, radar, slot, range_bias(range)).ok()
+        }
+    }
+}
+
+// Whether a summary gives the events of a log, call by call, and tells what the log tells.
+fn goes_along(
+    alloc: Global,
+    log: &mut Log,
+    settings: &Settings,
+    rows: &[(Call, Answer)],
+) -> Result<bool, NoMemory> {
+    let mut summary = LogSummary::new(START);
+    let mut events = Vec::new(alloc);
+    for (call, _) in rows {
+        let _ = answer_of(log, settings, *call);
+        if let Some(event) = event_of(alloc, &mut summary, settings, *call) {
+            events.push(event)?;
+        }
+    }
+    Ok(tells_the_same(&summary, log) && events.as_slice() == log.events())
+}
+
+// Whether a summary tells what a log tells.
+fn tells_the_same(summary: &LogSummary, log: &Log) -> bool {
+    (summary.start(), summary.last(), summary.next()) == (log.start(), log.last(), log.next())
+        && (summary.published(), summary.cut()) == (log.published(), log.cut())
+        && summary.count() == log.events().len() as u64
+}
+
+#[test]
+fn goes_on_without_events(rt: HostRuntime) -> Result<(), Fail> {
+    let settings = settings_with(rt.alloc(), 0)?;
+    let mut log = Log::new(rt.alloc(), START);
+    assert!(rt; goes_along(rt.alloc(), &mut log, &settings, &CALLS)? && log.next() == 1);
     Ok(())
 }
 
@@ -356,22 +597,47 @@ fn norths(alloc: Global, settings: &Settings, log: &Log) -> Result<Vec<i64>, NoM
     Ok(norths)
 }
 
+// Whether each plot lies where its biases say, once its slot is over.
+fn lie_to_the_north(
+    alloc: Global,
+    settings: &Settings,
+    rows: &[([(u64, i16); 2], i64)],
+) -> Result<bool, NoMemory> {
+    for (changes, north) in rows {
+        let [(first_slot, first), (second_slot, second)] = *changes;
+        let calls = [
+            Call::Report(4_608_000),
+            Call::Bias(0, first_slot, first),
+            Call::Bias(0, second_slot, second),
+        ];
+        if !lies_to_the_north(alloc, settings, &calls, *north)? {
+            return Ok(false);
+        }
+    }
+    Ok(true)
+}
+
+// .. the one of these calls.
+fn lies_to_the_north(
+    alloc: Global,
+    settings: &Settings,
+    calls: &[Call],
+    north: i64,
+) -> Result<bool, NoMemory> {
+    let mut log = Log::new(alloc, START);
+    for call in calls {
+        let _ = answer_of(&mut log, settings, *call);
+    }
+    let open = norths(alloc, settings, &log)?;
+    let _ = tick(&mut log, 4_608_128);
+    let over = norths(alloc, settings, &log)?;
+    Ok(open.is_empty() && over.as_slice() == [north].as_slice())
+}
+
 #[test]
 fn frees_plots_of_the_biases_of_their_slots(rt: HostRuntime) -> Result<(), Fail> {
-    let alloc = rt.alloc();
-    let settings = settings_with(alloc, 0)?;
-    for (changes, north) in CHANGES {
-        let mut log = Log::new(alloc, START);
-        log.admit(&settings, 0, &report(1, 4_608_000))?;
-        for (slot, range) in changes {
-            assert!(rt; slot < 1 << 34 && range.unsigned_abs() <= 1000);
-            log.bias(&settings, 0, slot, range_bias(range))?;
-        }
-        assert!(rt; norths(alloc, &settings, &log)?.is_empty());
-        log.tick(4_608_128)?;
-        let got = norths(alloc, &settings, &log)?;
-        assert_eq!(rt; got.as_slice(), [north].as_slice());
-    }
+    let settings = settings_with(rt.alloc(), 0)?;
+    assert!(rt; lie_to_the_north(rt.alloc(), &settings, &CHANGES)?);
     Ok(())
 }
 
@@ -430,12 +696,10 @@ fn orders_entries(rt: HostRuntime) {
     crosses_threads(&entries);
 }
 
-#[test]
-fn lists_the_entries_of_events(rt: HostRuntime) -> Result<(), Fail> {
-    let alloc = rt.alloc();
-    let settings = settings_with(alloc, 0)?;
+// The entries of a report, of a change of biases and of a tick.
+fn entries_of_three(alloc: Global, settings: &Settings) -> Result<Vec<Entry>, AdmitError> {
     let mut entries = Vec::new(alloc);
-    let event = deliver(alloc, &settings, START, 4, 0, &report(1, 4_608_010))?;
+    let event = deliver(alloc, settings, START, 4, 0, &report(1, 4_608_010))?;
     event.append_entries(8, &mut entries)?;
     let event = Event::Bias {
         radar: 0,
@@ -444,6 +708,13 @@ fn lists_the_entries_of_events(rt: HostRuntime) -> Result<(), Fail> {
     };
     event.append_entries(9, &mut entries)?;
     Event::Tick(4_608_128).append_entries(10, &mut entries)?;
+    Ok(entries)
+}
+
+#[test]
+fn lists_the_entries_of_events(rt: HostRuntime) -> Result<(), Fail> {
+    let settings = settings_with(rt.alloc(), 0)?;
+    let entries = entries_of_three(rt.alloc(), &settings)?;
     let want = [plot_at(4_608_010, 0, 4, 256), change(72_000, 9, 0, 2)];
     assert!(rt; entries.as_slice() == want.as_slice());
     let [plot, change] = want;

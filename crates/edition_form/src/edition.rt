@@ -23,6 +23,16 @@ pub struct Edition {
     pub certs: Sequence<Cert>,
 }
 
+/// What is shown, as the datagrams that are sent, and what the next edition is told against: an
+/// edition without its numbers and its certificates.
+#[derive(Debug, Drop)]
+pub struct Pictured {
+    /// The datagrams in their order.
+    pub datagrams: Sequence<Sequence<u8>>,
+    /// The lines of the tracks that are shown, in rising number.
+    pub shown: Sequence<ShownLine>,
+}
+
 /// An edition, and what the next one is told against.
 #[derive(Debug, Drop)]
 pub struct Built {

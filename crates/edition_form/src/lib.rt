@@ -22,7 +22,7 @@ mod telling;
 #[cfg(test)]
 mod tests;
 
-pub use building::build;
-pub use edition::{Built, Edition};
+pub use building::{build, pictured};
+pub use edition::{Built, Edition, Pictured};
 pub use laws::{folded_tables, one_edition, one_rising_number};
 pub use lines::ShownLine;

@@ -61,9 +61,9 @@ pub fn cost_of(ex: i64, sx: u64, ey: i64, sy: u64) -> Option<u16>
     within_gate(axis_cost(ex, sx), axis_cost(ey, sy))
 }
 
-// Whether a plot is of another aircraft than one with this address and code: their addresses
-// differ, or else, unless both have an address, their codes do.
-fn is_another(address: Option<u32>, code: Option<u16>, plot: &PlanePlot) -> bool
+/// Whether a plot is of another aircraft than one with this address (I048/220) and code (I048/070):
+/// their addresses differ, or else, unless both have an address, their codes do. It has no gate then.
+pub fn is_another(address: Option<u32>, code: Option<u16>, plot: &PlanePlot) -> bool
     ensures { result ≡ is_another address code plot.now }
 {
     match (address, plot.address) {

@@ -4,5 +4,5 @@
 mod gates;
 mod laws;
 
-pub use gates::{REACH, cost_of, gate, gate_mixed};
+pub use gates::{REACH, cost_of, gate, gate_mixed, is_another};
 pub use laws::one_reach;

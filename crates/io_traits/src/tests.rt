@@ -1,6 +1,10 @@
 // Runs of the two hosts: pieces, faults, room, whole places, and a real file.
-ghost use Rattle.std.specs.Prelude.{◌≡◌, Option, None};
+ghost use Rattle.std.specs.Prelude.{◌≡◌, ◌≢◌, ◌∷◌, [], None, IfOk};
+ghost use Rattle.io_traits.specs.Host.{IsBoundFor};
+ghost use Rattle.io_traits.specs.MemHost.{state_of};
+ghost use Rattle.io_traits.specs.Touching.{Touches};
 ghost use Rattle.io_traits.specs.declared.host.Place.{Place};
+ghost use Rattle.io_traits.specs.declared.host.Way.{Way};
 
 use crate::{Failed, FileHost, Host, MemHost, Place, ReadError, Way, read_place, write_all};
 use std::alloc::{AllocError, Global};
@@ -12,24 +16,51 @@ fn text(alloc: Global, name: &str) -> Result<String, AllocError> {
     String::from_str(alloc, name)
 }
 
+// Reads a place into a piece of four octets, turn after turn: what each call answers, and what the
+// piece then holds.
+fn reads<H: Host>(
+    rt: &impl Abort,
+    host: &mut H,
+    place: Place,
+    turns: &[(Result<usize, Failed>, [u8; 4])],
+)
+    requires { IsBoundFor Way.Read (H.state host.old) place }
+    ensures { Touches [] (place ∷ []) [] (H.state host.old) (H.state host.new) }
+{
+    let mut piece = [0u8; 4];
+    for (answer, octets) in turns {
+        assert_eq!(rt; host.read(place, &mut piece), *answer);
+        assert_eq!(rt; piece, *octets);
+    }
+}
+
+// Writes pieces of three octets to a place, turn after turn: what each call answers.
+fn writes<H: Host>(
+    rt: &impl Abort,
+    host: &mut H,
+    place: Place,
+    turns: &[([u8; 3], Result<usize, Failed>)],
+)
+    requires { place ≢ Place.Screen → IsBoundFor Way.Write (H.state host.old) place }
+{
+    for (piece, answer) in turns {
+        assert_eq!(rt; host.write(place, piece), *answer);
+    }
+}
+
 // Input holds six octets, and Output has room for five.
 fn reads_and_writes<H: Host>(rt: &impl Abort, host: &mut H, input: String, output: String)
     requires { (p : Place) → (H.state host.old).bound p ≡ None }
 {
-    let mut piece = [0u8; 4];
     assert_eq!(rt; host.bind(Place::Input, Way::Read, input), Ok(()));
-    assert_eq!(rt; host.read(Place::Input, &mut piece), Ok(4));
-    assert_eq!(rt; piece, *b"octe");
-    assert_eq!(rt; host.read(Place::Input, &mut piece), Ok(2));
-    assert_eq!(rt; piece, *b"tste");
-    assert_eq!(rt; host.read(Place::Input, &mut piece), Ok(0));
+    let turns = [(Ok(4), *b"octe"), (Ok(2), *b"tste"), (Ok(0), *b"tste")];
+    reads(rt, host, Place::Input, &turns);
     assert_eq!(rt; host.bind(Place::Output, Way::Write, output), Ok(()));
-    assert_eq!(rt; host.write(Place::Output, b"abc"), Ok(3));
-    assert_eq!(rt; host.write(Place::Output, b"def"), Ok(2));
-    assert_eq!(rt; host.write(Place::Output, b"f"), Err(Failed));
+    let turns = [(*b"abc", Ok(3)), (*b"def", Ok(2)), (*b"ghi", Err(Failed))];
+    writes(rt, host, Place::Output, &turns);
 }
 
-// The first call fails, the third, and the sixth. Settings holds two octets.
+// The first call fails, the third, and the sixth. Settings holds six octets.
 fn goes_on_after_faults<H: Host>(
     rt: &impl Abort,
     alloc: Global,
@@ -39,15 +70,16 @@ fn goes_on_after_faults<H: Host>(
 )
     requires { (p : Place) → (H.state host.old).bound p ≡ None }
 {
-    let mut piece = [0u8; 1];
     assert_eq!(rt;
         host.bind(Place::Settings, Way::Read, settings),
         Err(Failed)
     );
-    assert_eq!(rt; host.read(Place::Settings, &mut piece), Ok(1));
-    assert_eq!(rt; host.read(Place::Settings, &mut piece), Err(Failed));
-    assert_eq!(rt; host.read(Place::Settings, &mut piece), Ok(1));
-    assert_eq!(rt; piece, *b"b");
+    let turns = [
+        (Ok(4), *b"octe"),
+        (Err(Failed), *b"octe"),
+        (Ok(2), *b"tste"),
+    ];
+    reads(rt, host, Place::Settings, &turns);
     let read = read_place(alloc, host, Place::Input, input);
     assert!(rt; matches!(read, Err(ReadError::Failed)));
 }
@@ -80,41 +112,46 @@ fn fails_without_a_file<H: Host>(rt: &impl Abort, host: &mut H, missing: String)
     assert_eq!(rt; host.read(Place::Settings, &mut piece), Err(Failed));
 }
 
+// A host in memory where a place holds six octets, Output has room for five, and these calls fail.
+fn memory(alloc: Global, place: Place, fails: &[u64]) -> Result<MemHost, Fail>
+    ensures { IfOk result (λ host. (p : Place) → (state_of host).bound p ≡ None) }
+{
+    let left = vec![in alloc; (place, b"octets".to_vec(alloc)?)]?;
+    let room = vec![in alloc; (Place::Output, 5usize), (Place::Screen, 1usize)]?;
+    let fails = Vec::from_slice(alloc, fails)?;
+    Ok(MemHost::new(alloc, left, room, fails)?)
+}
+
+// Whether a place of a host is bound so, has nothing left, has got these octets, and has failed so
+// often.
+fn is_so(host: &MemHost, place: Place, bound: (Way, &str), got: &[u8], faults: u64) -> bool {
+    host.bound(place) == Some(bound)
+        && host.left(place).is_empty()
+        && host.got(place) == got
+        && host.faults(place) == faults
+}
+
 #[test]
 fn memory_is_read_in_pieces_and_written_up_to_the_room(rt: HostRuntime) -> Result<(), Fail> {
     let alloc = rt.alloc();
-    let left = vec![in alloc; (Place::Input, b"octets".to_vec(alloc)?)]?;
-    let room = vec![in alloc; (Place::Output, 5usize), (Place::Screen, 1usize)]?;
     let input = text(alloc, "in")?;
     let output = text(alloc, "out")?;
-    let mut host = MemHost::new(alloc, left, room, Vec::new(alloc))?;
+    let mut host = memory(alloc, Place::Input, &[])?;
     reads_and_writes(&rt, &mut host, input, output);
-    assert_eq!(rt; host.left(Place::Input), b"".as_slice());
-    assert_eq!(rt; host.got(Place::Output), b"abcde".as_slice());
-    assert_eq!(rt; host.faults(Place::Output), 1);
-    assert_eq!(rt;
-        host.bound(Place::Output).map(|(way, _)| way),
-        Some(Way::Write)
-    );
-    assert_eq!(rt; host.bound(Place::Input).map(|(_, name)| name), Some("in"));
+    assert!(rt; is_so(&host, Place::Input, (Way::Read, "in"), b"", 0));
+    assert!(rt; is_so(&host, Place::Output, (Way::Write, "out"), b"abcde", 1));
     Ok(())
 }
 
 #[test]
 fn memory_fails_where_it_is_told_to(rt: HostRuntime) -> Result<(), Fail> {
     let alloc = rt.alloc();
-    let left = vec![in alloc; (Place::Settings, b"ab".to_vec(alloc)?)]?;
-    let fails = vec![in alloc; 0u64, 2, 5]?;
     let settings = text(alloc, "missing")?;
     let input = text(alloc, "in")?;
-    let mut host = MemHost::new(alloc, left, Vec::new(alloc), fails)?;
+    let mut host = memory(alloc, Place::Settings, &[0, 2, 5])?;
     goes_on_after_faults(&rt, alloc, &mut host, settings, input);
-    assert_eq!(rt;
-        host.bound(Place::Settings).map(|(_, name)| name),
-        Some("missing")
-    );
-    assert_eq!(rt; host.faults(Place::Settings), 2);
-    assert_eq!(rt; host.faults(Place::Input), 1);
+    assert!(rt; is_so(&host, Place::Settings, (Way::Read, "missing"), b"", 2));
+    assert!(rt; is_so(&host, Place::Input, (Way::Read, "in"), b"", 1));
     Ok(())
 }
 

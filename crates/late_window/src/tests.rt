@@ -152,6 +152,14 @@ impl<L: Ledger> Watched<L> {
         Ok(())
     }
 
+    fn take(&mut self, rt: &impl Abort, step: Step) -> Result<(), Fail> {
+        match step {
+            Step::Insert(slot, number) => self.insert(rt, slot, number),
+            Step::Settle(upto) => self.settle(rt, upto),
+            Step::CloseBelow(low) => self.close_below(rt, low),
+        }
+    }
+
     // Whether these are the folded slots.
     fn has_folded(&self, slots: &[u64]) -> bool {
         self.window
@@ -162,36 +170,45 @@ impl<L: Ledger> Watched<L> {
     }
 }
 
-// A late item in each place: ahead of all, in a folded slot, below the first filled slot, at `low`.
+// What is done to a window.
+#[derive(Clone, Copy)]
+enum Step {
+    Insert(u64, u64),
+    Settle(u64),
+    CloseBelow(u64),
+}
+
+// Steps, and after each of them the first filled slot that isn't folded, and the folded ones: a
+// late item in each place.
+const REOPENS: [(Step, Option<u64>, &[u64]); 16] = [
+    (Step::Insert(12, 5), None, &[]),
+    (Step::Insert(14, 2), None, &[]),
+    (Step::Insert(12, 3), None, &[]),
+    (Step::Settle(16), None, &[12, 14]),
+    // Ahead of all.
+    (Step::Insert(20, 9), None, &[12, 14]),
+    // In a folded slot.
+    (Step::Insert(14, 1), Some(14), &[12]),
+    (Step::Settle(16), None, &[12, 14]),
+    // Below the first filled slot.
+    (Step::Insert(11, 4), Some(11), &[]),
+    // At `low`.
+    (Step::Insert(10, 8), Some(10), &[]),
+    (Step::Settle(16), None, &[10, 11, 12, 14]),
+    (Step::Settle(18), None, &[10, 11, 12, 14]),
+    (Step::Settle(20), None, &[10, 11, 12, 14]),
+    (Step::CloseBelow(12), None, &[12, 14]),
+    (Step::Insert(12, 1), Some(12), &[]),
+    (Step::Settle(30), None, &[12, 14, 20]),
+    (Step::CloseBelow(30), None, &[]),
+];
+
 fn reopens<L: Ledger>(rt: &impl Abort, watched: &mut Watched<L>) -> Result<(), Fail> {
-    watched.insert(rt, 12, 5)?;
-    watched.insert(rt, 14, 2)?;
-    watched.insert(rt, 12, 3)?;
-    assert!(rt; watched.window.dirty_from() == None);
-    watched.settle(rt, 16)?;
-    assert!(rt; watched.has_folded(&[12, 14]));
-    watched.insert(rt, 20, 9)?;
-    assert!(rt; watched.window.dirty_from() == None);
-    assert!(rt; watched.has_folded(&[12, 14]));
-    watched.insert(rt, 14, 1)?;
-    assert!(rt; watched.window.dirty_from() == Some(14));
-    assert!(rt; watched.has_folded(&[12]));
-    watched.settle(rt, 16)?;
-    watched.insert(rt, 11, 4)?;
-    assert!(rt; watched.window.dirty_from() == Some(11));
-    assert!(rt; watched.has_folded(&[]));
-    watched.insert(rt, 10, 8)?;
-    assert!(rt; watched.window.dirty_from() == Some(10));
-    watched.settle(rt, 16)?;
-    watched.settle(rt, 18)?;
-    watched.settle(rt, 20)?;
-    assert!(rt; watched.has_folded(&[10, 11, 12, 14]));
-    watched.close_below(rt, 12)?;
-    assert!(rt; watched.has_folded(&[12, 14]));
-    watched.insert(rt, 12, 1)?;
-    watched.settle(rt, 30)?;
-    assert!(rt; watched.has_folded(&[12, 14, 20]));
-    watched.close_below(rt, 30)?;
+    for (step, dirty, folded) in REOPENS {
+        watched.take(rt, step)?;
+        assert_eq!(rt; watched.window.dirty_from(), dirty);
+        assert!(rt; watched.has_folded(folded));
+    }
     assert!(rt; watched.window.items().is_empty());
     Ok(())
 }

@@ -77,7 +77,7 @@ at k numbers = get_or numbers k (pos 0)
 abbrev size_at : ℕ → List ℤ → ℕ
 size_at k numbers = unsigned_abs (get_or numbers k (pos 0))
 
-same_radar : (r s : RadarSettings) → radar_numbers r ≡ radar_numbers s → r ≡ s
+pub same_radar : (r s : RadarSettings) → radar_numbers r ≡ radar_numbers s → r ≡ s
 same_radar r s h =
     let fields : ◌≡◌ {A = RadarFields} (radar_fields r) (radar_fields s) =
     λ i. (size_at 0 (h i), size_at 1 (h i), at 2 (h i), at 3 (h i), at 4 (h i), size_at 5 (h i), at 6 (h i), at 7 (h i), at 8 (h i), at 9 (h i), size_at 10 (h i), size_at 11 (h i)) in
@@ -120,7 +120,7 @@ made_same s t e f h =
     let P : Fields → Type 0 = λ z. (g : Facts z) → made s e ≡ made z g in
     subst P h (λ g. ap (made s) (facts_prop s e g)) f
 
-same_settings : (s t : Settings) → system_numbers s ≡ system_numbers t → s.radars ≡ t.radars → s ≡ t
+pub same_settings : (s t : Settings) → system_numbers s ≡ system_numbers t → s.radars ≡ t.radars → s ≡ t
 same_settings s t h radars =
     let life = same_life s.life t.life (ap (size_at 4) h) (ap (size_at 5) h) (ap (size_at 6) h) in
     made_same (s.sac, s.sic, s.service, s.window, s.life, s.radars) (t.sac, t.sic, t.service, t.window, t.life, t.radars) (s.window_range, s.radars_range, s.own_sources)

@@ -3,7 +3,6 @@ mod ranges;
 mod reading;
 
 use crate::*;
-use admission_log::Settings;
 use std::alloc::{AllocError, Global};
 
 const SYSTEM: &str = "[system]\nsac = 1\nsic = 99\nservice = 1\nhits = 1\n";
@@ -11,21 +10,23 @@ const SYSTEM: &str = "[system]\nsac = 1\nsic = 99\nservice = 1\nhits = 1\n";
 const RADAR: &str =
     "[[radar]]\nsac = 1\nsic = 1\nx = 0\ny = 0\nrange_sigma = 50\nazimuth_sigma = 12\n";
 
-// The settings of a text, or their fault; None where memory is wanting.
-fn read(alloc: Global, text: &str) -> Option<Result<Settings, SettingsFault>> {
+// What is wrong with the settings of a text, or nothing.
+fn fault_of(alloc: Global, text: &str) -> Result<Option<SettingsFault>, AllocError> {
     match read_settings(alloc, text.as_bytes()) {
-        Ok(settings) => Some(Ok(settings)),
-        Err(SettingsError::Fault(fault)) => Some(Err(fault)),
-        Err(SettingsError::NoMemory) => None,
+        Ok(_) => Ok(None),
+        Err(SettingsError::Fault(fault)) => Ok(Some(fault)),
+        Err(SettingsError::NoMemory) => Err(AllocError),
     }
 }
 
-// What is told of the settings of a text: nothing where they have no fault.
-fn told(alloc: Global, text: &str) -> Result<String, AllocError> {
-    match read(alloc, text) {
-        Some(Ok(_)) => Ok(String::new(alloc)),
-        Some(Err(fault)) => format!(in alloc; "{fault}"),
-        None => String::from_str(alloc, "memory is wanting"),
+// Whether this is told of the settings of a text: nothing where they have no fault.
+fn tells(alloc: Global, text: &str, want: &str) -> Result<bool, AllocError> {
+    match fault_of(alloc, text)? {
+        None => Ok(want.is_empty()),
+        Some(fault) => {
+            let told = format!(in alloc; "{fault}")?;
+            Ok(told.as_str() == want)
+        }
     }
 }
 

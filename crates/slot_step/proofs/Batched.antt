@@ -6,7 +6,7 @@ use Rattle.std.specs.List.Sorted.{IsStrictlySortedBy}
 use Rattle.std.specs.declared.cmp.Ordering.TheVariants.{Less}
 use Rattle.std.proofs.lemmas.Bool.{eq-eqb}
 use Rattle.std.proofs.lemmas.List.{append-nil}
-use Rattle.std.proofs.lemmas.List.Elements.{filter-append, Contains-append_cases}
+use Rattle.std.proofs.lemmas.List.Elements.{filter-append, Contains-append_cases, Contains-append_left, Contains-append_right}
 use Rattle.trk_base.specs.Keys.{key_cmp}
 use Rattle.plot_geometry.specs.Plots.{PlanePlot}
 use Rattle.slot_step.specs.OneBatch.{Batch, IsBatch}
@@ -45,12 +45,17 @@ rest_batches n b bs h = record { each = h.each.1; of_slot = h.of_slot.1; rising 
 radar_later : (n : ℕ) (b c : Batch) (bs : List Batch) → AreBatches n (b ∷ bs) → Contains bs c → b.radar < c.radar
 radar_later n b c bs h k = later b.radar (map (λ d. d.radar) bs) h.rising c.radar (mapped (λ d. d.radar) bs c k)
 
-in_plots : (bs : List Batch) (p : PlanePlot) → Contains (plots_of bs) p → (b : Batch) × Contains bs b × Contains b.plots p
+pub in_plots : (bs : List Batch) (p : PlanePlot) → Contains (plots_of bs) p → (b : Batch) × Contains bs b × Contains b.plots p
 in_plots [] p c = contains_none p c
 in_plots (b ∷ bs) p c = elim (Contains-append_cases b.plots (plots_of bs) p c) [
   | inl d ↦ (b, contains_first b b bs refl, d)
   | inr d ↦ let r : (a : Batch) × Contains bs a × Contains a.plots p = in_plots bs p d in (r.0, contains_later b r.0 bs r.1, r.2)
 ]
+
+pub plots_have : (bs : List Batch) (i : ℕ) (b : Batch) (p : PlanePlot) → IsAt bs i b → Contains b.plots p → Contains (plots_of bs) p
+plots_have [] i b p a c = absurd a
+plots_have (d ∷ bs) zero b p a c = Contains-append_left d.plots (plots_of bs) p (subst (λ (e : Batch). Contains e.plots p) (sym a) c)
+plots_have (d ∷ bs) (suc i) b p a c = Contains-append_right d.plots (plots_of bs) p (plots_have bs i b p a c)
 
 -- of one slot, a plot of a lower radar comes first
 pub by_radar : (p q : PlanePlot) → p.key.slot ≡ q.key.slot → p.key.radar < q.key.radar → key_cmp p.key q.key ≡ Less

@@ -48,7 +48,7 @@ module _ {T P : Type 0} (gate : T → P → Option ℕ) where
   one_edge i j cost p t ts rest es done n e h =
       append_assoc es ((i, j, cost) ∷ []) (plot_edges gate i p (suc j) ts) ∙ ap (λ (o : Option ℕ). es ++ (gate_edge i j o ++ plot_edges gate i p (suc j) ts)) (sym n) ∙ ap (λ (us : List T). es ++ plot_edges gate i p j us) (sym e) ∙ h
 
-  rest_at : {X : Type 0} (xs : List X) (k : ℕ) (x : X) → IsAt xs k x → drop k xs ≡ x ∷ drop (suc k) xs
+  pub rest_at : {X : Type 0} (xs : List X) (k : ℕ) (x : X) → IsAt xs k x → drop k xs ≡ x ∷ drop (suc k) xs
   rest_at xs k x a = drop-cons xs k x (within xs k x a) ∙ ap (λ y. y ∷ drop (suc k) xs) (at_get x xs k x a)
 
   -- one track more, without a gate and with one

@@ -25,3 +25,5 @@ pub mod Batched
 pub mod Running
 pub mod Cutting
 pub mod Counted
+pub mod Skipping
+pub mod Looking

@@ -136,6 +136,36 @@ module _ (life : LifeSettings) (n : ℕ) (ts : List TrackState) (bs : List Batch
         good = good;
       }
 
+  -- the table stays as it is over radars without plots
+  stays : (d r : ℕ) → ((q : ℕ) → r ≤ q → q < r + d → own q ≡ []) → table r ≡ table (r + d)
+  stays zero r g = let e : r ≡ r + 0 = omega arith in ap table e
+  stays (suc d) r g =
+      let e : r + d + 1 ≡ r + suc d = omega arith in
+      let none : own (r + d) ≡ [] = g (r + d) (omega arith) (omega arith) in
+      stays d r (λ q le lt. g q le (omega (arith, lt))) ∙ sym (next_table (r + d) ∙ ap (batch_step (tracking life) (table (r + d))) none ∙ batch_of_none (tracking life) (table (r + d))) ∙ ap table e
+
+  -- where no batch is of these radars
+  stays_to : (r to : ℕ) → r ≤ to → ((j : ℕ) (b : Batch) → IsAt bs j b → r ≤ b.radar → b.radar < to → ⊥) → table r ≡ table to
+  stays_to r to le f =
+      let e : r + (to - r) ≡ to = omega (arith, le) in
+      stays (to - r) r (λ q low high. no_plots bs q h.each (λ c k same.
+      let m : (j : ℕ) × IsAt bs j c = at_from bs c k in
+      f m.0 c m.1 (omega (arith, same, low)) (omega (arith, same, high, e)))) ∙ ap table e
+
+  -- at the start of the batch of radar r, where the batches so far are those of the radars below it
+  pub run_until : (i : ℕ) (tracks : List TrackState) (certs : List KeyedCert) → HasRun life n ts bs i tracks certs → (r : ℕ) → ((j : ℕ) (b : Batch) → IsAt bs j b → j < i → b.radar < r)
+      → ((j : ℕ) (b : Batch) → IsAt bs j b → i ≤ j → r ≤ b.radar) → tracks ≡ batch_table (tracking life) (ordered life) ts n (plots_of bs) r
+  run_until i tracks certs g r low high = elim (cases_lt g.radar r) [
+    | inl lt ↦ g.tracks_are ∙ stays_to g.radar r (omega (arith, lt)) (λ j b a l u. elim (cases_lt j i) [
+      | inl d ↦ omega (arith, l, g.passed j b a d)
+      | inr d ↦ omega (arith, u, high j b a d)
+    ])
+    | inr ge ↦ g.tracks_are ∙ sym (stays_to r g.radar ge (λ j b a l u. elim (cases_lt j i) [
+      | inl d ↦ omega (arith, l, low j b a d)
+      | inr d ↦ omega (arith, u, g.later j b a d)
+    ]))
+  ]
+
   -- after the last batch there are no plots either
   ended : (i : ℕ) (tracks : List TrackState) (certs : List KeyedCert) (g : HasRun life n ts bs i tracks certs) → length bs ≤ i → (table g.radar ≡ table radar_limit) × Below radar_limit g.certificates
   ended i tracks certs g le = skipped_to g.radar radar_limit g.certificates g.limit (λ q low high. no_plots bs q h.each (λ c k e.
@@ -159,6 +189,10 @@ module _ (life : LifeSettings) (n : ℕ) (ts : List TrackState) (bs : List Batch
 
     pub run_near : (i : ℕ) (tracks : List TrackState) (certs : List KeyedCert) → HasRun life n ts bs i tracks certs → (b : Batch) → IsAt bs i b → AreNear tracks b.plots
     run_near i tracks certs g b a = near n tracks b.plots (subst (AllByRecursion (IsCurrent n)) (sym g.tracks_are) (current g.radar)) (all_contains (λ (c : Batch). AllByRecursion (InSlot n) c.plots) b bs h.of_slot (at_contains bs i b a))
+
+    -- and of plots of the slot that aren't the run's own
+    pub run_near_others : (i : ℕ) (tracks : List TrackState) (certs : List KeyedCert) → HasRun life n ts bs i tracks certs → (ps : List PlanePlot) → AllByRecursion (InSlot n) ps → AreNear tracks ps
+    run_near_others i tracks certs g ps s = near n tracks ps (subst (AllByRecursion (IsCurrent n)) (sym g.tracks_are) (current g.radar)) s
 
     at_start : IsAtBatch (tracking life) (ordered life) (tracks_ordered life) (unexpired (ordered life) n ts) n 0
     at_start = record {

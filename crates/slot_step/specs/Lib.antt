@@ -12,6 +12,8 @@ pub mod OneBatch
 pub mod Calls
 pub mod Told
 pub mod Gates
+pub mod Candidates
+pub mod Beside
 pub mod ComponentEdges
 pub mod ToldComponents
 pub mod Moving

@@ -1,30 +1,45 @@
 // The gates of a batch.
-ghost use Rattle.std.specs.Prelude.{◌≡◌, ◌<◌, ◌^◌, ◌++◌, List, map, length, All, IfOk, OnOk};
-ghost use Rattle.fixed_imm.specs.Aims.{mixed_aim};
+ghost use Rattle.std.specs.Prelude.{◌≡◌, ◌<◌, ◌^◌, ◌++◌, ℕ, List, map, length, All, IfOk, OnOk};
 ghost use Rattle.fixed_imm.specs.Bounds.{IsTimeStep, time_step};
 ghost use Rattle.track_life.specs.Tracks.{TrackState};
 ghost use Rattle.slot_step.specs.Calls.{AreNear};
-ghost use Rattle.slot_step.specs.Gates.{plot_edges, batch_edges};
+ghost use Rattle.slot_step.specs.Gates.{batch_edges};
+ghost use Rattle.slot_step.specs.Candidates.{may_gate, candidates, mixed_candidate, candidate_edges};
 ghost use Rattle.slot_step.specs.Problems.{IsProblemOf};
 ghost use Rattle.slot_step.specs.Tracker.{track_gate};
 
 use assignment_dual::Costs;
 use fixed_imm::MixedAim;
-use gating::gate_mixed;
+use gating::{gate_mixed, is_another};
 use plot_geometry::PlanePlot;
 use std::alloc::Global;
 use track_life::Track;
 use trk_base::{NoMemory, Sequence};
 
-// What the gates read of each track, mixed once for all plots of the batch.
-fn mixed_aims(alloc: Global, tracks: &[Track]) -> Result<Vec<MixedAim>, NoMemory>
-    ensures { IfOk result (λ aims. aims.items ≡ map (λ t. mixed_aim t.aim) tracks.now) }
+// Whether some plot of the batch may be of the track's aircraft, by what the two call themselves.
+fn may_gate(track: &Track, plots: &[PlanePlot]) -> bool
+    ensures { result ≡ may_gate plots.now track.now }
 {
-    let mut aims = Vec::with_capacity(alloc, tracks.len())?;
-    for track in tracks {
-        aims.push(track.aim.mixed())?;
+    plots.iter().any(|plot| !is_another(track.aim.address, track.aim.code, plot))
+}
+
+// The tracks that may gate some plot of the batch, by their indices, with what the gates read of
+// them. Mixing takes longer than all other work on a track that no plot comes near.
+fn candidates(
+    alloc: Global,
+    tracks: &[Track],
+    plots: &[PlanePlot],
+) -> Result<Vec<(u32, MixedAim)>, NoMemory>
+    requires { length tracks.now < 2 ^ 32 }
+    ensures { IfOk result (λ found. found.items ≡ map mixed_candidate (candidates plots.now tracks.now)) }
+{
+    let mut found = Vec::new(alloc);
+    for (index, track) in tracks.iter().enumerate() {
+        if may_gate(track, plots) {
+            found.push((index as u32, track.aim.mixed()))?;
+        }
     }
-    Ok(aims)
+    Ok(found)
 }
 
 // Puts the gates of the plot at this index of the batch at the end.
@@ -32,15 +47,14 @@ fn add_gates(
     edges: &mut Vec<(u32, u32, u16)>,
     index: u32,
     plot: &PlanePlot,
-    aims: &[MixedAim],
+    candidates: &[(u32, MixedAim)],
 ) -> Result<(), NoMemory>
-    requires few { length aims.now < 2 ^ 32 }
-    requires near { All (λ a. IsTimeStep (time_step a.time plot.now.key.time)) aims.now }
-    ensures { (tracks : List TrackState) → aims.now ≡ map (λ t. mixed_aim t.aim) tracks → OnOk result (edges.new.items ≡ edges.old.items ++ plot_edges track_gate index plot.now 0 tracks) }
+    requires { All (λ c. IsTimeStep (time_step c.1.time plot.now.key.time)) candidates.now }
+    ensures { (tracks : List (ℕ × TrackState)) → candidates.now ≡ map mixed_candidate tracks → OnOk result (edges.new.items ≡ edges.old.items ++ candidate_edges track_gate index plot.now tracks) }
 {
-    for (track, aim) in aims.iter().enumerate() {
-        if let Some(cost) = gate_mixed(aim, plot) {
-            edges.push((index, track as u32, cost))?;
+    for candidate in candidates {
+        if let Some(cost) = gate_mixed(&candidate.1, plot) {
+            edges.push((index, candidate.0, cost))?;
         }
     }
     Ok(())
@@ -57,10 +71,10 @@ fn edges_of(
     requires near { AreNear tracks.now plots.now }
     ensures { IfOk result (λ edges. edges.items ≡ batch_edges track_gate tracks.now 0 plots.now) }
 {
-    let aims = mixed_aims(alloc, tracks)?;
+    let candidates = candidates(alloc, tracks, plots)?;
     let mut edges = Vec::new(alloc);
     for (index, plot) in plots.iter().enumerate() {
-        add_gates(&mut edges, index as u32, plot, &aims)?;
+        add_gates(&mut edges, index as u32, plot, &candidates)?;
     }
     Ok(edges)
 }

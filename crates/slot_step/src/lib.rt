@@ -17,6 +17,7 @@ mod gates;
 mod laws;
 mod moving;
 mod pairing;
+mod reaching;
 mod slots;
 mod starts;
 #[cfg(test)]
@@ -29,5 +30,6 @@ pub use laws::{
     merged_tables, problem_of_batch, resting, run_in_parts, run_in_two_parts, tables_before,
     tracker_laws, two_batches, unread_numbers,
 };
+pub use reaching::reaches;
 pub use slots::{SlotRan, slot_run, slot_step};
 pub use starts::batch_tables;

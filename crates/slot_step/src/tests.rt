@@ -3,7 +3,9 @@ ghost use Rattle.std.specs.Prelude.{◌≡◌, ◌≤◌, All, IfOk};
 ghost use Rattle.price_form.specs.Certificates.{IsCert};
 ghost use Rattle.slot_step.specs.Calls.{AreBatches};
 
-use crate::{Batch, KeyedCert, are_slot_plots, batch_tables, batches_of, slot_run, slot_step};
+use crate::{
+    Batch, KeyedCert, are_slot_plots, batch_tables, batches_of, reaches, slot_run, slot_step,
+};
 use plot_geometry::PlanePlot;
 use price_form::check;
 use std::alloc::Global;
@@ -129,7 +131,13 @@ fn all_prove(certs: &[KeyedCert]) -> bool
     true
 }
 
-// The table after the case's slots.
+// Whether a certificate has a gate.
+fn has_gate(keyed: &KeyedCert) -> bool {
+    keyed.cert.costs.edges.len() > 0
+}
+
+// The table after the case's slots. That the tracks reach the slot's own plots is seen from the
+// certificates.
 fn fold<L: Ledger>(
     rt: &impl Abort,
     alloc: Global,
@@ -154,6 +162,8 @@ fn fold<L: Ledger>(
         );
         assert!(rt; all_prove(step.certs.as_slice()));
         assert!(rt; step.certs.copy(alloc)? == step.certs);
+        let reached = reaches(alloc, &table, slot, &batches, &batches, life)?;
+        assert_eq!(rt; reached, step.certs.as_slice().iter().any(has_gate));
         table = step.table;
     }
     Ok(table)

@@ -6,8 +6,9 @@ mod numbers;
 
 use crate::{LifeSettings, Table, Track, expire};
 use plot_geometry::PlanePlot;
+use std::alloc::Global;
 use std::test::Fail;
-use trk_base::{Key, TryCopy, slot_of};
+use trk_base::{Key, NoMemory, TryCopy, slot_of};
 
 const LIFE: LifeSettings = LifeSettings {
     hits: 2,
@@ -41,10 +42,22 @@ fn plot_of(time: u64, radar: u8, kind: u8, level: Option<i16>) -> PlanePlot
     }
 }
 
+// A table of one track.
+#[tactic(auto, using(crate::proofs::Expiry::one_track))]
+fn table_of(alloc: Global, track: Track) -> Result<Table, NoMemory> {
+    let mut tracks = Vec::new(alloc);
+    tracks.push(track)?;
+    Ok(Table::of(tracks))
+}
+
+// How many tracks of a table are kept at a slot.
+fn kept(alloc: Global, table: &Table, slot: u64) -> Result<usize, NoMemory> {
+    Ok(expire(alloc, table, slot, &LIFE)?.tracks().len())
+}
+
 #[test]
-#[tactic(auto, using(crate::proofs::Expiry::one_track), unfolding(crate::specs::Tracks::begun))]
-fn lives(rt: HostRuntime) -> Result<(), Fail> {
-    let alloc = rt.alloc();
+#[tactic(auto, unfolding(crate::specs::Tracks::begun))]
+fn is_confirmed_by_a_second_plot(rt: HostRuntime) {
     let first = Track::begin(&plot_of(4_608_063, 0, 2, Some(40)), &LIFE);
     assert_eq!(rt;
         (first.plots, first.confirmed, first.mono),
@@ -69,24 +82,22 @@ fn lives(rt: HostRuntime) -> Result<(), Fail> {
         (second.level, second.radar, second.number),
         (Some(40), 0, None)
     );
+}
 
-    // A tentative track is kept for 5 s, and a confirmed one for 10.
-    let mut tracks = Vec::new(alloc);
-    tracks.push(Track::begin(&plot_of(4_608_000, 0, 2, None), &LIFE))?;
-    let table = Table::of(tracks);
-    assert_eq!(rt; expire(alloc, &table, 72_010, &LIFE)?.tracks().len(), 1);
-    assert_eq!(rt; expire(alloc, &table, 72_011, &LIFE)?.tracks().len(), 0);
-    assert_eq!(rt; table.copy(alloc)?.into_tracks().len(), 1);
-    let mut tracks = Vec::new(alloc);
-    tracks.push(second)?;
-    let table = Table::of(tracks);
-    assert_eq!(rt; expire(alloc, &table, 72_020, &LIFE)?.tracks().len(), 1);
-    assert_eq!(rt; expire(alloc, &table, 72_021, &LIFE)?.tracks().len(), 0);
-    assert_eq!(rt;
-        expire(alloc, &Table::empty(alloc), 72_021, &LIFE)?
-            .tracks()
-            .len(),
-        0
-    );
+// A tentative track is kept for 5 s, and a confirmed one for 10.
+#[test]
+#[tactic(auto, unfolding(crate::specs::Tracks::begun))]
+fn expires(rt: HostRuntime) -> Result<(), Fail> {
+    let alloc = rt.alloc();
+    let first = Track::begin(&plot_of(4_608_000, 0, 2, None), &LIFE);
+    let second = first.update(&plot_of(4_608_000, 1, 7, None), &LIFE);
+    let tentative = table_of(alloc, first)?;
+    assert_eq!(rt; kept(alloc, &tentative, 72_010)?, 1);
+    assert_eq!(rt; kept(alloc, &tentative, 72_011)?, 0);
+    assert_eq!(rt; tentative.copy(alloc)?.into_tracks().len(), 1);
+    let confirmed = table_of(alloc, second)?;
+    assert_eq!(rt; kept(alloc, &confirmed, 72_020)?, 1);
+    assert_eq!(rt; kept(alloc, &confirmed, 72_021)?, 0);
+    assert_eq!(rt; kept(alloc, &Table::empty(alloc), 72_021)?, 0);
     Ok(())
 }

@@ -28,9 +28,10 @@ use Rattle.tracker_fold.specs.declared.state.TrackerState.{TrackerState}
 use Rattle.tracker_fold.specs.Keys.{key_in}
 use Rattle.tracker_fold.specs.Steps.{radars_after}
 use Rattle.edition_form.specs.declared.edition.Built.{Built}
+use Rattle.edition_form.specs.declared.edition.Pictured.{Pictured}
 use Rattle.edition_form.specs.declared.lines.ShownLine.{ShownLine}
 use Rattle.edition_form.specs.Certificates.{AreLogCertificates}
-use Rattle.edition_form.specs.Datagrams.{ArePictured, lines_in, shown_at, shown_of}
+use Rattle.edition_form.specs.Datagrams.{AreDatagramsOf, ArePictured, lines_in, shown_at, shown_of}
 use Rattle.edition_form.specs.Editions.{IsEdition}
 use Rattle.edition_form.specs.Folding.{table_of}
 use Rattle.edition_form.specs.Lines.{RiseByNumber}
@@ -104,6 +105,16 @@ module _ (settings : Settings) (log : History) (before : ℕ) (given : Settings)
   pub shown_is : (r : Result Built NoMemory) → IfOk r (λ b. b.shown ≡ lines_in (picture given biases table services time)) → IfOk r (λ b. b.shown ≡ shown_of settings log)
   shown_is (Ok b) h = h ∙ (λ i. lines_in (picture (are.settings_are i) (are.biases_are i) (are.table_is i) (are.services_are i) (are.time_is i)))
   shown_is (Err e) h = tt
+
+  pub lines_are : (r : Result Pictured NoMemory) → IfOk r (λ p. p.shown ≡ lines_in (picture given biases table services time)) → IfOk r (λ p. p.shown ≡ shown_of settings log)
+  lines_are (Ok p) h = h ∙ (λ i. lines_in (picture (are.settings_are i) (are.biases_are i) (are.table_is i) (are.services_are i) (are.time_is i)))
+  lines_are (Err e) h = tt
+
+  pub datagrams_are : (number : ℕ) (r : Result Pictured NoMemory) → IfOk r (λ p. ArePictured given (picture given biases table services time) old number p.datagrams) → IfOk r (λ p. AreDatagramsOf settings log before number p.datagrams)
+  datagrams_are number (Err e) d = tt
+  datagrams_are number (Ok p) d =
+      subst (λ (z : Settings × (List Bias × (List TrackState × (List (Option ℕ) × (ℕ × List ShownLine))))). ArePictured z.0 (picture z.0 z.1.0 z.1.1.0 z.1.1.1.0 z.1.1.1.1.0) z.1.1.1.1.1 number p.datagrams)
+      (λ i. (are.settings_are i, (are.biases_are i, (are.table_is i, (are.services_are i, (are.time_is i, are.old_are i)))))) d
 
   pub edition_is : (number cut at : ℕ) (certs : List Cert) (r : Result Built NoMemory) → cut ≡ length log.events → at ≡ before → AreLogCertificates settings log certs
       → IfOk r (λ b. b.edition.number ≡ number) → IfOk r (λ b. b.edition.cut ≡ cut) → IfOk r (λ b. b.edition.before ≡ at) → IfOk r (λ b. b.edition.time ≡ time)

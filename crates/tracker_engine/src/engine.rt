@@ -5,17 +5,19 @@ ghost use Rattle.price_form.specs.Certificates.{IsCert};
 ghost use Rattle.admission_log.specs.declared.settings.Settings.{Settings};
 ghost use Rattle.admission_log.specs.Histories.{History, low_at};
 ghost use Rattle.admission_log.specs.Legality.{IsLegal};
-ghost use Rattle.edition_form.specs.Datagrams.{shown_at, shown_of};
+ghost use Rattle.edition_form.specs.Datagrams.{AreDatagramsOf, shown_at, shown_of};
 ghost use Rattle.edition_form.specs.Editions.{IsEdition};
 ghost use Rattle.edition_form.specs.Folding.{table_of};
+ghost use Rattle.edition_form.specs.Prices.{ArePricesOf};
 ghost use Rattle.tracker_engine.specs.Engines.{StandsFor, Continues, IsAllSettled, with_events};
 ghost use Rattle.tracker_engine.specs.Spans.{AreSpan};
 
 use crate::absorbing::{entries_of, note_all};
-use crate::showing::{biases_at, certs_from};
+use crate::showing::{append_prices, biases_at, certs_from};
 use admission_log::{Event, Settings};
-use edition_form::{Built, ShownLine, build};
+use edition_form::{Built, Pictured, ShownLine, build, pictured};
 use late_window::Window;
+use price_form::write_edition;
 use std::alloc::Global;
 use std::marker::Model;
 use std::sync::Arc;
@@ -147,6 +149,42 @@ impl Engine {
             &self.shown,
             certs,
         )
+    }
+
+    /// What the edition of all events that were taken in shows, which are settled: its datagrams, and
+    /// its lines. Nothing is copied of certificates. `number` is its number.
+    pub fn pictured(&self, number: u64) -> Result<Pictured, NoMemory>
+        requires settled { IsAllSettled self.now }
+        ensures datagrams { (settings : Settings) (log : History) (before : ℕ) → StandsFor settings log (length log.events) before self.now → IfOk result (λ p. AreDatagramsOf settings log before number p.datagrams) }
+        ensures shown { (settings : Settings) (log : History) (before : ℕ) → StandsFor settings log (length log.events) before self.now → IfOk result (λ p. p.shown ≡ shown_of settings log) }
+    {
+        let state = self.window.state();
+        let biases = biases_at(
+            self.alloc,
+            state.radars.as_slice(),
+            slot_of(self.last),
+            self.window.items(),
+        )?;
+        pictured(
+            self.alloc,
+            &self.settings,
+            &biases,
+            &state.table,
+            &self.services,
+            self.last,
+            number,
+            &self.shown,
+        )
+    }
+
+    /// What a price file has of the edition of all events that were taken in, which are settled: the
+    /// record of its number and its cut, and those of its certificates.
+    pub fn prices(&self, number: u64) -> Result<Vec<u8>, NoMemory>
+        ensures { (settings : Settings) (log : History) (before : ℕ) → StandsFor settings log (length log.events) before self.now → IfOk result (λ v. ArePricesOf settings log (number, length log.events) v.items) }
+    {
+        let mut octets = write_edition(self.alloc, number, self.count)?;
+        append_prices(self.low(), self.window.outs(), &mut octets)?;
+        Ok(octets)
     }
 
     /// From now on the edition before is the one at this cut, which showed these lines: the next one

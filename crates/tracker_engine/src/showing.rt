@@ -5,6 +5,7 @@ ghost use Rattle.plot_geometry.specs.Biases.{bias_of};
 ghost use Rattle.admission_log.specs.Entries.{slot_in};
 ghost use Rattle.admission_log.specs.EntryOrder.{entry_cmp};
 ghost use Rattle.tracker_fold.specs.Keys.{key_in};
+ghost use Rattle.tracker_fold.specs.Priced.{told_octets};
 ghost use Rattle.tracker_fold.specs.Steps.{radars_after};
 
 use admission_log::Entry;
@@ -12,8 +13,8 @@ use plot_geometry::{Bias, RadarSettings};
 use price_form::Cert;
 use slot_step::KeyedCert;
 use std::alloc::Global;
-use tracker_fold::radars_after;
-use trk_base::{NoMemory, Sequence, TryCopy};
+use tracker_fold::{PricedCerts, radars_after};
+use trk_base::{NoMemory, TryCopy};
 
 /// Of each radar the biases that hold for a slot, where `radars` are as they were before it. The
 /// entries are in rising order.
@@ -59,14 +60,14 @@ fn count_below(entries: &[Entry], slot: u64) -> usize
 pub fn certs_from(
     alloc: Global,
     low: u64,
-    outs: &[(u64, Sequence<KeyedCert>)],
+    outs: &[(u64, PricedCerts)],
 ) -> Result<Vec<Cert>, NoMemory>
     ensures { IfOk result (λ v. v.items ≡ flat_map (λ o. map (λ k. k.cert) o.1) (filter (λ o. nat_le low o.0) outs.now)) }
 {
     let mut certs = Vec::new(alloc);
     for (slot, told) in outs {
         if *slot >= low {
-            append_certs(alloc, told.as_slice(), &mut certs)?;
+            append_certs(alloc, told.certs(), &mut certs)?;
         }
     }
     Ok(certs)
@@ -78,6 +79,22 @@ fn append_certs(alloc: Global, told: &[KeyedCert], certs: &mut Vec<Cert>) -> Res
 {
     for keyed in told {
         certs.push(keyed.cert.copy(alloc)?)?;
+    }
+    Ok(())
+}
+
+/// Puts what a price file has of the certificates of the slots from `low` on after other octets.
+pub fn append_prices(
+    low: u64,
+    outs: &[(u64, PricedCerts)],
+    octets: &mut Vec<u8>,
+) -> Result<(), NoMemory>
+    ensures { OnOk result (octets.new.items ≡ octets.old.items ++ flat_map (λ o. told_octets o.1) (filter (λ o. nat_le low o.0) outs.now)) }
+{
+    for (slot, told) in outs {
+        if *slot >= low {
+            octets.extend_from_slice(told.octets())?;
+        }
     }
     Ok(())
 }

@@ -9,7 +9,7 @@ ghost use Rattle.tracker_engine.specs.Engines.{StandsFor};
 
 use crate::Engine;
 use admission_log::{Log, Settings};
-use edition_form::{Built, Edition};
+use edition_form::{Built, Edition, Pictured};
 use plot_geometry::{Bias, RadarSettings};
 use std::alloc::Global;
 use std::marker::Brand;
@@ -314,6 +314,14 @@ fn take(rt: &impl Abort, settings: &Settings, log: &mut Log, item: Item)
     }
 }
 
+// An edition, and what is told of it without certificates.
+#[derive(Drop)]
+struct Advanced {
+    edition: Edition,
+    pictured: Pictured,
+    prices: Vec<u8>,
+}
+
 // Takes in the events of the log up to a cut, settles, tells the edition, and shows it.
 fn advance<L: Ledger>(
     engine: &mut Engine,
@@ -322,7 +330,7 @@ fn advance<L: Ledger>(
     cut: usize,
     number: u64,
     steps: &mut Steps<L>,
-) -> Result<Edition, NoMemory>
+) -> Result<Advanced, NoMemory>
     requires stands { (settings : Settings) × (before : ℕ) × IsLegal settings log.now × StandsFor settings (first from log.now) from before engine.old }
     requires later { from < cut }
     requires within { cut ≤ length log.now.events }
@@ -333,9 +341,22 @@ fn advance<L: Ledger>(
     let (events, _) = rest.split_at(cut - from);
     engine.absorb(events)?;
     engine.settle(steps)?;
+    let pictured = engine.pictured(number)?;
+    let prices = engine.prices(number)?;
     let Built { edition, shown } = engine.edition(number)?;
     engine.show(cut as u64, shown.into_vec());
-    Ok(edition)
+    Ok(Advanced {
+        edition,
+        pictured,
+        prices,
+    })
+}
+
+// Whether what is told without certificates is the edition's, and the prices have all of them.
+fn agrees(advanced: &Advanced) -> bool {
+    let certs = advanced.edition.certs.len();
+    advanced.pictured.datagrams == advanced.edition.datagrams
+        && advanced.prices.len() >= certs.saturating_mul(42).saturating_add(17)
 }
 
 // Whether an edition and the tracks are as a row tells.
@@ -379,8 +400,9 @@ fn follow<L: Ledger>(
     let mut number = 1;
     for row in rows {
         assert!(rt; from < row.cut && row.cut <= log.events().len() && number < 9);
-        let edition = advance(&mut engine, log, from, row.cut, number, steps)?;
-        assert!(rt; is_told(&edition, engine.table().tracks(), row));
+        let advanced = advance(&mut engine, log, from, row.cut, number, steps)?;
+        assert!(rt; is_told(&advanced.edition, engine.table().tracks(), row));
+        assert!(rt; agrees(&advanced));
         from = row.cut;
         number += 1;
     }

@@ -6,6 +6,7 @@
 
 mod keys;
 mod laws;
+mod priced;
 mod state;
 mod step;
 #[cfg(test)]
@@ -13,5 +14,6 @@ mod tests;
 
 pub use keys::EntryKey;
 pub use laws::{folded_log, folded_radars};
+pub use priced::PricedCerts;
 pub use state::TrackerState;
 pub use step::{TrackerFold, radars_after};

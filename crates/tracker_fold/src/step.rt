@@ -7,11 +7,11 @@ ghost use Rattle.slot_step.specs.Calls.{AreBatches, plots_of};
 ghost use Rattle.tracker_fold.specs.Keys.{key_in};
 ghost use Rattle.tracker_fold.specs.Steps.{changed, radars_after, plane, planes, moved, AreCertified, AreOfOneSlot, IsBefore};
 
-use crate::{EntryKey, TrackerState};
+use crate::{EntryKey, PricedCerts, TrackerState};
 use admission_log::Entry;
 use late_window::Fold;
 use plot_geometry::{PlanePlot, RadarSettings, to_plane};
-use slot_step::{Batch, KeyedCert, SlotRan, batches_of, slot_step};
+use slot_step::{Batch, SlotRan, batches_of, slot_step};
 use std::alloc::Global;
 use track_life::Table;
 use trk_base::{NoMemory, Sequence, Ticket, TryCopy};
@@ -31,7 +31,7 @@ impl Fold for TrackerFold {
 
     type Item = Entry;
 
-    type Out = Sequence<KeyedCert>;
+    type Out = PricedCerts;
 
     type Key = EntryKey;
 
@@ -65,7 +65,7 @@ impl Fold for TrackerFold {
         slot: u64,
         items: &[Entry],
         ticket: &mut Ticket,
-    ) -> Result<(TrackerState, Sequence<KeyedCert>), NoMemory> {
+    ) -> Result<(TrackerState, PricedCerts), NoMemory> {
         match Prepared::of(alloc, state.radars.as_slice(), items) {
             Ok(prepared) => prepared.step(alloc, state, slot, ticket),
             Err(NoMemory) => {
@@ -109,7 +109,7 @@ impl Prepared {
         state: &TrackerState,
         slot: u64,
         ticket: &mut Ticket,
-    ) -> Result<(TrackerState, Sequence<KeyedCert>), NoMemory>
+    ) -> Result<(TrackerState, PricedCerts), NoMemory>
         requires batches { AreBatches slot self.batches.items }
         requires before { IsBefore state.now slot }
         requires paid { 0 < ticket.old }
@@ -124,12 +124,13 @@ impl Prepared {
         } else {
             slot_step(alloc, &state.table, slot, &batches, &state.life, ticket)?
         };
+        let priced = PricedCerts::new(alloc, certs)?;
         let state = TrackerState {
             life: state.life,
             radars: Sequence::of(radars),
             table,
         };
-        Ok((state, certs))
+        Ok((state, priced))
     }
 }
 

@@ -157,7 +157,7 @@ impl<L: Ledger> Watched<L> {
         self.window
             .outs()
             .iter()
-            .map(|out| (out.0, out.1.len()))
+            .map(|out| (out.0, out.1.certs().len()))
             .eq(counts.iter().copied())
     }
 }

@@ -1,4 +1,4 @@
-use super::{RADAR, SYSTEM, entries, joined, read, told};
+use super::{RADAR, SYSTEM, entries, fault_of, joined, tells};
 use crate::{SETTINGS_LIMIT, SettingsError, SettingsFault, read_settings};
 use std::alloc::AllocError;
 
@@ -122,8 +122,7 @@ const FAULTS: [(&[&str], &str); 32] = [
 fn tells_the_first_fault(rt: HostRuntime) -> Result<(), AllocError> {
     for (parts, want) in FAULTS {
         let text = joined(rt.alloc(), parts)?;
-        let got = told(rt.alloc(), text.as_str())?;
-        assert!(rt; got.as_str() == want);
+        assert!(rt; tells(rt.alloc(), text.as_str(), want)?);
     }
     Ok(())
 }
@@ -156,8 +155,7 @@ fn takes_32_radars(rt: HostRuntime) -> Result<(), AllocError> {
     for (count, more, want) in MANY {
         let mut text = entries(rt.alloc(), count, more)?;
         text.push_str(SYSTEM)?;
-        let got = told(rt.alloc(), text.as_str())?;
-        assert!(rt; got.as_str() == want);
+        assert!(rt; tells(rt.alloc(), text.as_str(), want)?);
     }
     Ok(())
 }
@@ -169,9 +167,9 @@ fn takes_65_536_octets_of_utf8(rt: HostRuntime) -> Result<(), AllocError> {
     for _ in text.len()..SETTINGS_LIMIT {
         text.push_str("#")?;
     }
-    assert!(rt; matches!(read(alloc, text.as_str()), Some(Ok(_))));
+    assert!(rt; fault_of(alloc, text.as_str())? == None);
     text.push_str("#")?;
-    assert!(rt; read(alloc, text.as_str()) == Some(Err(SettingsFault::Syntax)));
+    assert!(rt; fault_of(alloc, text.as_str())? == Some(SettingsFault::Syntax));
     let no_text = read_settings(alloc, b"\xff");
     assert!(rt; no_text == Err(SettingsError::Fault(SettingsFault::Syntax)));
     Ok(())

@@ -1,4 +1,5 @@
-use super::told;
+use super::fault_of;
+use crate::{KeyPath, SettingsFault};
 use std::alloc::{AllocError, Global};
 
 // Each key with its name, and the numbers just below and just above its range.
@@ -42,25 +43,23 @@ fn document(alloc: Global, changed: u8, number: i64) -> Result<String, AllocErro
     Ok(text)
 }
 
-// What is told of a document with that number at a key.
-fn told_at(alloc: Global, key: u8, number: i64) -> Result<String, AllocError> {
+// What is wrong with a document with that number at a key.
+fn fault_at(alloc: Global, key: u8, number: i64) -> Result<Option<SettingsFault>, AllocError> {
     let text = document(alloc, key, number)?;
-    told(alloc, text.as_str())
+    fault_of(alloc, text.as_str())
 }
 
 #[test]
 fn keeps_the_ranges(rt: HostRuntime) -> Result<(), AllocError> {
-    let alloc = rt.alloc();
     for (key, _, below, above) in ENDS {
-        let radar = if key < 8 { "" } else { " of radar 0" };
-        let range = format!(in alloc; "settings: range of key {key}{radar}")?;
+        let radar = (key > 7).then_some(0);
+        let range = Some(SettingsFault::Range(KeyPath { radar, key }));
         for (number, want) in [
-            (below, range.as_str()),
-            (above.saturating_sub(1), ""),
-            (above, range.as_str()),
+            (below, range),
+            (above.saturating_sub(1), None),
+            (above, range),
         ] {
-            let got = told_at(alloc, key, number)?;
-            assert!(rt; got.as_str() == want);
+            assert!(rt; fault_at(rt.alloc(), key, number)? == want);
         }
     }
     Ok(())

@@ -1,6 +1,8 @@
-use super::{RADAR, SYSTEM, joined, read};
+use super::{RADAR, SYSTEM, joined};
+use crate::read_settings;
 use admission_log::Settings;
-use std::alloc::AllocError;
+use plot_geometry::RadarSettings;
+use std::alloc::{AllocError, Global};
 
 // The parts of a text with one radar, and the values of keys 1 to 7 and 8 to 19.
 const READ: [(&[&str], [i64; 7], [i64; 12]); 5] = [
@@ -49,48 +51,53 @@ const READ: [(&[&str], [i64; 7], [i64; 12]); 5] = [
     ),
 ];
 
-// The values of the keys of settings with one radar.
-fn values(settings: &Settings) -> Option<([i64; 7], [i64; 12])> {
-    let [radar] = settings.radars.as_slice() else {
-        return None;
+// The values of keys 1 to 7.
+fn system_values(settings: &Settings) -> [i64; 7] {
+    [
+        i64::from(settings.sac),
+        i64::from(settings.sic),
+        i64::from(settings.service),
+        i64::from(settings.window),
+        i64::from(settings.life.hits),
+        i64::from(settings.life.keep_tentative),
+        i64::from(settings.life.keep_confirmed),
+    ]
+}
+
+// The values of keys 8 to 19.
+fn radar_values(radar: &RadarSettings) -> [i64; 12] {
+    [
+        i64::from(radar.sac),
+        i64::from(radar.sic),
+        i64::from(radar.x),
+        i64::from(radar.y),
+        i64::from(radar.height),
+        i64::from(radar.north),
+        i64::from(radar.range_gain),
+        i64::from(radar.range_bias),
+        i64::from(radar.azimuth_bias),
+        i64::from(radar.time_bias),
+        i64::from(radar.range_sigma),
+        i64::from(radar.azimuth_sigma),
+    ]
+}
+
+// Whether a text has settings with these values and one radar.
+fn gives(alloc: Global, text: &str, system: &[i64; 7], radar: &[i64; 12]) -> bool {
+    let Ok(settings) = read_settings(alloc, text.as_bytes()) else {
+        return false;
     };
-    let life = settings.life;
-    Some((
-        [
-            i64::from(settings.sac),
-            i64::from(settings.sic),
-            i64::from(settings.service),
-            i64::from(settings.window),
-            i64::from(life.hits),
-            i64::from(life.keep_tentative),
-            i64::from(life.keep_confirmed),
-        ],
-        [
-            i64::from(radar.sac),
-            i64::from(radar.sic),
-            i64::from(radar.x),
-            i64::from(radar.y),
-            i64::from(radar.height),
-            i64::from(radar.north),
-            i64::from(radar.range_gain),
-            i64::from(radar.range_bias),
-            i64::from(radar.azimuth_bias),
-            i64::from(radar.time_bias),
-            i64::from(radar.range_sigma),
-            i64::from(radar.azimuth_sigma),
-        ],
-    ))
+    let [one] = settings.radars.as_slice() else {
+        return false;
+    };
+    system_values(&settings) == *system && radar_values(one) == *radar
 }
 
 #[test]
 fn reads_numbers_and_defaults(rt: HostRuntime) -> Result<(), AllocError> {
     for (parts, system, radar) in READ {
         let text = joined(rt.alloc(), parts)?;
-        let got = match read(rt.alloc(), text.as_str()) {
-            Some(Ok(settings)) => values(&settings),
-            _ => None,
-        };
-        assert!(rt; got == Some((system, radar)));
+        assert!(rt; gives(rt.alloc(), text.as_str(), &system, &radar));
     }
     Ok(())
 }

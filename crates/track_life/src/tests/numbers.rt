@@ -1,5 +1,5 @@
 // Track numbers: who is given which.
-use super::{LIFE, plot_of};
+use super::{LIFE, plot_of, table_of};
 use crate::numbers::give_numbers;
 use crate::{Table, Track, assign_numbers};
 use std::alloc::Global;
@@ -117,22 +117,18 @@ fn numbers(rt: HostRuntime) -> Result<(), Fail> {
     Ok(())
 }
 
+// The number of a table's last track.
+fn last_number(table: &Table) -> Option<u16> {
+    table.tracks().last().and_then(|track| track.number)
+}
+
 #[test]
-#[tactic(auto, using(crate::proofs::Expiry::one_track))]
 fn table(rt: HostRuntime) -> Result<(), Fail> {
     let alloc = rt.alloc();
-    let mut tracks = Vec::new(alloc);
-    tracks.push(track_of(0, true, None))?;
-    let mut table = Table::of(tracks);
+    let mut table = table_of(alloc, track_of(0, true, None))?;
     assign_numbers(alloc, &mut table)?;
-    assert_eq!(rt;
-        table.tracks().last().and_then(|track| track.number),
-        Some(1)
-    );
+    assert_eq!(rt; last_number(&table), Some(1));
     assign_numbers(alloc, &mut table)?;
-    assert_eq!(rt;
-        table.tracks().last().and_then(|track| track.number),
-        Some(1)
-    );
+    assert_eq!(rt; last_number(&table), Some(1));
     Ok(())
 }

@@ -40,8 +40,13 @@ fn checked<'a>(
     }
 }
 
+/// A check with room for what it tells, in which no call fails.
+fn judged<'a>(prices: &'a [u8], status: Status, screen: &'a str) -> Run<'a> {
+    checked(prices, 1000, &[], status, screen)
+}
+
 /// Where the price of the plot is one more than its pairing costs, the first such certificate is told: the only one, and
-/// the second of three. The fault of a file is told before any of them.
+/// the second of three.
 #[test]
 fn verdicts(rt: HostRuntime) -> Result<(), Fail> {
     let alloc = rt.alloc();
@@ -50,8 +55,6 @@ fn verdicts(rt: HostRuntime) -> Result<(), Fail> {
     let mut three = Vec::from_slice(alloc, &ONE_CERTIFICATE)?;
     three.extend_from_slice(&other[4..])?;
     three.extend_from_slice(&other[21..])?;
-    let mut longer = Vec::from_slice(alloc, &other)?;
-    longer.push(3)?;
     let only = Status::NotProved {
         index: 0,
         offset: 21,
@@ -60,37 +63,34 @@ fn verdicts(rt: HostRuntime) -> Result<(), Fail> {
         index: 1,
         offset: 80,
     };
+    let runs = [
+        judged(&ONE_CERTIFICATE, Status::Done, PROVED),
+        judged(
+            &ONE_CERTIFICATE[..4],
+            Status::Done,
+            "certificates 0 proved\n",
+        ),
+        judged(&other, only, "not proved: certificate 0 at offset 21\n"),
+        judged(&three, second, "not proved: certificate 1 at offset 80\n"),
+    ];
+    assert_eq!(rt; only.code(), 8);
+    compare(&rt, alloc, &runs)
+}
+
+/// The fault of a file is told, also where it comes after a certificate that isn't proved.
+#[test]
+fn faults_of_a_price_file(rt: HostRuntime) -> Result<(), Fail> {
+    let alloc = rt.alloc();
+    let mut longer = Vec::from_slice(alloc, &ONE_CERTIFICATE[..62])?;
+    longer.extend_from_slice(&[2, 3])?;
     let empty = Status::Input { offset: 0 };
     let cut = Status::Input { offset: 21 };
     let end = Status::Input { offset: 63 };
     let runs = [
-        checked(&ONE_CERTIFICATE, 1000, &[], Status::Done, PROVED),
-        checked(
-            &ONE_CERTIFICATE[..4],
-            1000,
-            &[],
-            Status::Done,
-            "certificates 0 proved\n",
-        ),
-        checked(
-            &other,
-            1000,
-            &[],
-            only,
-            "not proved: certificate 0 at offset 21\n",
-        ),
-        checked(
-            &three,
-            1000,
-            &[],
-            second,
-            "not proved: certificate 1 at offset 80\n",
-        ),
-        checked(&[], 1000, &[], empty, "input: offset 0\n"),
-        checked(&ONE_CERTIFICATE[..62], 1000, &[], cut, "input: offset 21\n"),
-        checked(&longer, 1000, &[], end, "input: offset 63\n"),
+        judged(&[], empty, "input: offset 0\n"),
+        judged(&ONE_CERTIFICATE[..62], cut, "input: offset 21\n"),
+        judged(&longer, end, "input: offset 63\n"),
     ];
-    assert_eq!(rt; only.code(), 8);
     compare(&rt, alloc, &runs)
 }
 

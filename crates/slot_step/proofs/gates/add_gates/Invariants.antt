@@ -1,10 +1,9 @@
-use Rattle.std.proofs.Common.{◌≡◌, ◌++◌, List, map, drop}
-use Rattle.fixed_imm.specs.Aims.{mixed_aim}
+use Rattle.std.proofs.Common.{◌≡◌, ◌++◌, ℕ, List, map, drop}
 use Rattle.track_life.specs.Tracks.{TrackState}
-use Rattle.slot_step.specs.Gates.{plot_edges}
+use Rattle.slot_step.specs.Candidates.{mixed_candidate, candidate_edges}
 use Rattle.slot_step.specs.Tracker.{track_gate}
 use Rattle.slot_step.proofs.gates.add_gates.Given as goal
 
-abbrev pub invariant-loop-track : goal.invariant-loop-track
-invariant-loop-track l = (ts : List TrackState) → l.aims ≡ map (λ t. mixed_aim t.aim) ts
-    → l.edges.items ++ plot_edges track_gate l.index l.plot l.track (drop l.track ts) ≡ l.initial.edges.items ++ plot_edges track_gate l.index l.plot 0 ts
+abbrev pub invariant-loop-candidate : goal.invariant-loop-candidate
+invariant-loop-candidate l = (tracks : List (ℕ × TrackState)) → l.candidates ≡ map mixed_candidate tracks
+    → l.edges.items ++ candidate_edges track_gate l.index l.plot (drop l.candidate-index tracks) ≡ l.initial.edges.items ++ candidate_edges track_gate l.index l.plot tracks

@@ -10,6 +10,15 @@ absorb-requires g c =
     let s = c.requires.stands in
     record { continues = continues c.args.log.now c.args.from c.args.cut c.requires.later c.requires.within s.0 s.1 s.2 c.args.engine.now s.3 c.split_at-2.result.0.now are }
 
+pub pictured-requires : goal.pictured-requires
+pictured-requires g c =
+    let log = c.args.log.now in
+    let are = c.split_at-2.ensures.front ∙ ap (take (c.args.cut - c.args.from)) (c.split_at.ensures.back ∙ ap (drop c.args.from) c.events.ensures.value) in
+    let s = c.requires.stands in
+    let more = more_legal log c.args.from c.args.cut c.requires.later c.requires.within s.0 s.1 s.2 c.args.engine.now s.3 c.split_at-2.result.0.now are in
+    let own = taken_in log c.args.from c.args.cut c.requires.later c.requires.within s.0 s.1 s.2 c.args.engine.now s.3 c.split_at-2.result.0.now are c.absorb.new.self (c.in_ok-absorb.ensures.stands s.0 (first c.args.from log) c.args.from s.1 s.3 more) in
+    record { settled = record { settings = s.0; log = first c.args.cut log; before = s.1; stands = c.in_ok-settle.ensures.stands s.0 (first c.args.cut log) c.args.from s.1 own } }
+
 pub edition-requires-clause-settled : goal.edition-requires-clause-settled
 edition-requires-clause-settled g c =
     let log = c.args.log.now in

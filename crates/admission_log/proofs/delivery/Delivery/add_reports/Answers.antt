@@ -13,7 +13,7 @@ loop-report-preserved c =
     let i = c.loop-report.report-index in
     let reports = c.args.reports.now in
     let r = c.report-item.result in
-    let one = messages_one settings c.args.last (report r) c.admission.result mid new c.admission.ensures c.in_ok-add.ensures.brings c.in_ok-add.ensures.other in
+    let one = messages_one settings c.args.last (report r) c.admission.result mid new c.admission.ensures c.in_ok-add.ensures in
     let grown : map report (take i reports) ++ report r ∷ [] ≡ map report (take (i + 1) reports) =
     sym (map-append report (take i reports) (r ∷ [])) ∙ ap (map report) (ap (λ x. take i reports ++ x ∷ []) c.report-item.is ∙ sym (take_more reports i r c.loop-report-test.true)) in
     subst (λ ms. BringsMessages settings c.args.last ms c.args.self.now new) grown

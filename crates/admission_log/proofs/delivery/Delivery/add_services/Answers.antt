@@ -14,7 +14,7 @@ loop-service-preserved c = λ last.
     let i = c.loop-service.service-index in
     let services = c.args.services.now in
     let s = get_or services i (record { source = None; kind = None; tod = None; sector = None; rotation = None }) in
-    let one = messages_one settings last (service s) _ mid new (ap (λ r. Err (outcomes.Service r)) c.counted_radar-radar.ensures) c.in_ok-add.ensures.brings c.in_ok-add.ensures.other in
+    let one = messages_one settings last (service s) _ mid new (ap (λ r. Err (outcomes.Service r)) c.counted_radar-radar.ensures) c.in_ok-add.ensures in
     let grown : map service (take i services) ++ service s ∷ [] ≡ map service (take (i + 1) services) =
     sym (map-append service (take i services) (s ∷ [])) ∙ ap (map service) (sym (take_more services i _ c.loop-service-test.true)) in
     subst (λ ms. BringsMessages settings last ms c.args.self.now new) grown
