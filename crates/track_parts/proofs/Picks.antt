@@ -1,5 +1,5 @@
 -- The tracks of one part, picked one after the other.
-use Rattle.std.proofs.Common.{◌≡◌, ◌∙◌, ap, sym, refl, ℕ, zero, suc, ◌<◌, ◌≤◌, List, [], ◌∷◌, ◌++◌, length, drop, get_or, map, Bool, true, false, cond, arith}
+use Rattle.std.proofs.Common.{◌≡◌, ◌∙◌, ap, sym, refl, ℕ, zero, suc, ◌+◌, ◌<◌, ◌≤◌, List, [], ◌∷◌, ◌++◌, length, drop, get_or, map, Bool, true, false, cond, arith, subst}
 use Rattle.std.specs.List.{AllByRecursion}
 use Rattle.std.specs.List.Sorted.{IsStrictlySortedBy}
 use Rattle.std.specs.declared.cmp.Ordering.{Ordering}
@@ -12,13 +12,40 @@ use Rattle.track_life.specs.Tables.{IsTable}
 use Rattle.span_clusters.specs.Parts.{picked_items}
 
 -- from index i on the element there is picked or not, and then those after it
-pub next_pick : {X : Type 0} (f : ℕ → Bool) (ns : List ℕ) (xs : List X) (i n : ℕ) (x : X) → length ns ≡ length xs → i < length xs → n ≡ get_or ns i n → x ≡ get_or xs i x
-    → picked_items f (drop i ns) (drop i xs) ≡ cond (f n) (x ∷ picked_items f (drop (suc i) ns) (drop (suc i) xs)) (picked_items f (drop (suc i) ns) (drop (suc i) xs))
-next_pick f [] [] i n x l lt a b = absurd (omega (arith, lt))
-next_pick f [] (y ∷ xs) i n x l lt a b = absurd (omega (arith, l))
-next_pick f (m ∷ ns) [] i n x l lt a b = absurd (omega (arith, l))
-next_pick {X} f (m ∷ ns) (y ∷ xs) zero n x l lt a b = λ j. cond (f (sym a j)) (sym b j ∷ picked_items f ns xs) (picked_items f ns xs)
-next_pick f (m ∷ ns) (y ∷ xs) (suc i) n x l lt a b = next_pick f ns xs i n x (omega (arith, l)) (omega (arith, lt)) a b
+next_pick : {X : Type 0} (f : ℕ → Bool) (ns : List ℕ) (xs : List X) (i d : ℕ) (x : X) → length ns ≡ length xs → i < length xs → x ≡ get_or xs i x
+    → picked_items f (drop i ns) (drop i xs) ≡ cond (f (get_or ns i d)) (x ∷ picked_items f (drop (suc i) ns) (drop (suc i) xs)) (picked_items f (drop (suc i) ns) (drop (suc i) xs))
+next_pick f [] [] i d x l lt b = absurd (omega (arith, lt))
+next_pick f [] (y ∷ xs) i d x l lt b = absurd (omega (arith, l))
+next_pick f (m ∷ ns) [] i d x l lt b = absurd (omega (arith, l))
+next_pick {X} f (m ∷ ns) (y ∷ xs) zero d x l lt b = λ j. cond (f m) (sym b j ∷ picked_items f ns xs) (picked_items f ns xs)
+next_pick f (m ∷ ns) (y ∷ xs) (suc i) d x l lt b = next_pick f ns xs i d x (omega (arith, l)) (omega (arith, lt)) b
+
+pub next_pick_at : {X : Type 0} (f : ℕ → Bool) (ns : List ℕ) (xs : List X) (i d : ℕ) (x : X) → length ns ≡ length xs → i < length xs → x ≡ get_or xs i x
+    → picked_items f (drop i ns) (drop i xs) ≡ cond (f (get_or ns i d)) (x ∷ picked_items f (drop (i + 1) ns) (drop (i + 1) xs)) (picked_items f (drop (i + 1) ns) (drop (i + 1) xs))
+next_pick_at f ns xs i d x l lt b =
+    let e : suc i ≡ i + 1 = omega arith in
+    subst (λ j. picked_items f (drop i ns) (drop i xs) ≡ cond (f (get_or ns i d)) (x ∷ picked_items f (drop j ns) (drop j xs)) (picked_items f (drop j ns) (drop j xs))) e (next_pick f ns xs i d x l lt b)
+
+pub drop_none : {X : Type 0} (xs : List X) → drop 0 xs ≡ xs
+drop_none [] = refl
+drop_none (x ∷ xs) = refl
+
+drop_all : {X : Type 0} (xs : List X) (i : ℕ) → length xs ≤ i → drop i xs ≡ []
+drop_all [] zero l = refl
+drop_all [] (suc i) l = refl
+drop_all (x ∷ xs) zero l = absurd (omega (arith, l))
+drop_all (x ∷ xs) (suc i) l = drop_all xs i (omega (arith, l))
+
+none_picked : {X : Type 0} (f : ℕ → Bool) (ns : List ℕ) → picked_items {I = X} f ns [] ≡ []
+none_picked f [] = refl
+none_picked f (n ∷ ns) = refl
+
+pub picks_end : {X : Type 0} (f : ℕ → Bool) (ns : List ℕ) (xs : List X) (i : ℕ) → length xs ≤ i → picked_items f (drop i ns) (drop i xs) ≡ []
+picks_end f ns xs i l = ap (picked_items f (drop i ns)) (drop_all xs i l) ∙ none_picked f (drop i ns)
+
+pub snoc_length : {X : Type 0} (xs : List X) (x : X) → length (xs ++ x ∷ []) ≡ length xs + 1
+snoc_length [] x = omega arith
+snoc_length (y ∷ xs) x = let n = snoc_length xs x in omega (arith, n)
 
 fewer : (f : ℕ → Bool) (ns : List ℕ) (ts : List TrackState) → length (picked_items f ns ts) ≤ length ts
 fewer f [] ts = omega arith

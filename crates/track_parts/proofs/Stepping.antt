@@ -1,5 +1,6 @@
 -- What a slot's step and its parts are asked for.
-use Rattle.std.proofs.Common.{◌≡◌, ◌∙◌, sym, refl, ap, ℕ, ◌<◌, ◌^◌, ◌-◌, List, [], ◌∷◌, length, map, subst}
+use Rattle.std.proofs.Common.{◌≡◌, ◌∙◌, sym, refl, ap, ℕ, ◌<◌, ◌^◌, ◌-◌, List, [], ◌∷◌, length, map, arith, subst}
+use Rattle.std.specs.Prelude.{fold}
 use Rattle.std.specs.List.Sorted.{IsStrictlySortedBy}
 use Rattle.std.specs.Cmp.{IsTotalOrder}
 use Rattle.std.proofs.lemmas.Cmp.{on_total}
@@ -15,7 +16,9 @@ use Rattle.slot_step.proofs.Slotted.{map_sorted}
 use Rattle.slot_step.proofs.Tables.{merged_of, run_of_none}
 use Rattle.slot_step.proofs.Tracker.{tracks_ordered}
 use Rattle.track_parts.specs.Members.{Tracks}
-use Rattle.track_parts.specs.Tracking.{woven_by, by_birth, SharesNone}
+use Rattle.slot_step.specs.declared.certs.KeyedCert.{KeyedCert}
+use Rattle.span_clusters.specs.Interleavings.{IsJoin}
+use Rattle.track_parts.specs.Tracking.{woven_by, by_birth, both_certs, SharesNone}
 use Rattle.track_parts.specs.Woven.{woven_is}
 
 births_total : IsTotalOrder by_birth
@@ -37,3 +40,9 @@ merged_table s t ts b e few = record {
 pub expired_is : (life : LifeSettings) (ts : List TrackState) (n : ℕ) → unexpired life n ts ≡ run_tracks life ts n []
 unfolding unexpired
 expired_is life ts n = sym (run_of_none (tracking life) (ordered life) (tracks_ordered life) ts n)
+
+-- put in order with none before it, the first is as it was
+pub join_of : (xs : List (List KeyedCert)) (y : List KeyedCert) → 0 < length xs → y ≡ fold both_certs [] xs → IsJoin both_certs xs y
+unfolding woven_by
+join_of [] y l e = absurd (omega (arith, l))
+join_of (x ∷ xs) y l e = e

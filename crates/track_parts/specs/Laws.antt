@@ -154,17 +154,21 @@ picks_merged s ns f g n l h d =
 
 -- ---- merging: the order of tables is one, whatever the life
 
+-- that two tables share no birth doesn't depend on the life
+whatever_life : (l m : LifeSettings) (ts us : List TrackState) → AreBeside (ordered l) ts us → AreBeside (ordered m) ts us
+whatever_life l m ts us b = record { one = b.one; other = b.other; births = b.births }
+
 pub beside_back : (s t : Tracks) → SharesNone s t → SharesNone t s
-beside_back s t b = record { life = sym b.life; tables = Tables.beside_back (tracking s.life) (ordered s.life) (tracks_ordered s.life) s.table t.table b.tables }
+beside_back s t b = record { life = sym b.life; tables = whatever_life s.life t.life t.table s.table (Tables.beside_back (tracking s.life) (ordered s.life) (tracks_ordered s.life) s.table t.table b.tables) }
 
 pub beside_merged : (s t r : Tracks) → SharesNone s t → SharesNone s r → SharesNone t r → SharesNone (merged s t) r
-beside_merged s t r a b c = record { life = b.life; tables = Tables.beside_merged (tracking s.life) (ordered s.life) (tracks_ordered s.life) s.table t.table r.table a.tables b.tables c.tables }
+beside_merged s t r a b c = record { life = b.life; tables = Tables.beside_merged (tracking s.life) (ordered s.life) (tracks_ordered s.life) s.table t.table r.table a.tables b.tables (whatever_life t.life s.life t.table r.table c.tables) }
 
 pub merged_back : (s t : Tracks) → SharesNone s t → merged s t ≡ merged t s
 merged_back s t b = λ i. record { life = b.life i; table = Tables.merged_back (tracking s.life) (ordered s.life) (tracks_ordered s.life) s.table t.table b.tables i }
 
 pub merged_rest : (s t r : Tracks) → SharesNone s t → SharesNone s r → SharesNone t r → merged (merged s t) r ≡ merged s (merged t r)
-merged_rest s t r a b c = ap (with_table s) (Tables.merged_rest (tracking s.life) (ordered s.life) (tracks_ordered s.life) s.table t.table r.table a.tables b.tables c.tables)
+merged_rest s t r a b c = ap (with_table s) (Tables.merged_rest (tracking s.life) (ordered s.life) (tracks_ordered s.life) s.table t.table r.table a.tables b.tables (whatever_life t.life s.life t.table r.table c.tables))
 
 pub merged_before : (s t : Tracks) (n : ℕ) → SharesNone s t → IsBefore s n → IsBefore t n → IsBefore (merged s t) n
 merged_before s t n b h g = record {

@@ -1,10 +1,14 @@
 // The tracker's fold over plots, without numbers.
-ghost use Rattle.std.specs.Prelude.{◌≡◌};
+ghost use Rattle.std.specs.Prelude.{◌≡◌, IfOk};
+ghost use Rattle.plot_geometry.specs.PlotOrder.{plot_cmp};
+ghost use Rattle.late_window.specs.Folding.{Rises, InSlot};
+ghost use Rattle.slot_step.specs.Calls.{AreBatches, plots_of};
+ghost use Rattle.track_parts.specs.Tracking.{slot_of_plot, key_of_plot};
 
 use crate::Tracks;
 use late_window::Fold;
 use plot_geometry::PlanePlot;
-use slot_step::{KeyedCert, SlotRan, batches_of, slot_run};
+use slot_step::{Batch, KeyedCert, SlotRan, batches_of, slot_run};
 use std::alloc::Global;
 use trk_base::{Key, NoMemory, Sequence, Ticket, TryCopy};
 
@@ -57,10 +61,16 @@ impl Fold for PlotFold {
         items: &[PlanePlot],
         ticket: &mut Ticket,
     ) -> Result<(Tracks, Sequence<KeyedCert>), NoMemory> {
-        match batches_of(alloc, items) {
+        match slot_batches(alloc, slot, items) {
             Ok(batches) => {
-                let SlotRan { table, certs } =
-                    slot_run(alloc, state.table(), slot, &batches, state.life(), ticket)?;
+                let SlotRan { table, certs } = slot_run(
+                    alloc,
+                    state.table(),
+                    slot,
+                    &batches,
+                    state.life(),
+                    ticket,
+                )?;
                 Ok((Tracks::of(*state.life(), table), certs))
             }
             Err(NoMemory) => {
@@ -73,4 +83,18 @@ impl Fold for PlotFold {
     fn copy(alloc: Global, state: &Tracks) -> Result<Tracks, NoMemory> {
         state.copy(alloc)
     }
+}
+
+/// A slot's plots as batches.
+pub(crate) fn slot_batches(
+    alloc: Global,
+    slot: u64,
+    plots: &[PlanePlot],
+) -> Result<Vec<Batch>, NoMemory>
+    requires rising { Rises plot_cmp key_of_plot plots.now }
+    requires of_slot { InSlot slot_of_plot slot plots.now }
+    ensures plots { IfOk result (λ batches. plots_of batches.items ≡ plots.now) }
+    ensures batches { IfOk result (λ batches. AreBatches slot batches.items) }
+{
+    batches_of(alloc, plots)
 }

@@ -1,16 +1,17 @@
 // The tracker's tracks as members of states that can be split and merged.
-ghost use Rattle.std.specs.Prelude.{◌≡◌, ◌<◌, ◌≤◌, ◌+◌, ◌↔◌, ◌==◌, length, IfOk, IsTrue, All};
+ghost use Rattle.std.specs.Prelude.{◌≡◌, ◌<◌, ◌≤◌, ◌+◌, ◌↔◌, ◌==◌, [], length, fold, IfOk, IsTrue, All};
 ghost use Rattle.late_window.specs.Folding.{Rises, InSlot};
 ghost use Rattle.span_clusters.specs.Interleavings.{IsJoin};
 ghost use Rattle.span_clusters.specs.Parts.{Reaches};
 ghost use Rattle.track_parts.specs.Tracking.{both_certs};
 
 use crate::choosing::part_numbers;
+use crate::fold::slot_batches;
 use crate::splitting::picked_tracks;
 use crate::weaving::{woven_certs, woven_tracks};
 use crate::{PlotFold, Tracks};
 use plot_geometry::PlanePlot;
-use slot_step::KeyedCert;
+use slot_step::{KeyedCert, reaches};
 use span_clusters::Separable;
 use std::alloc::Global;
 use track_life::{Table, expire};
@@ -69,7 +70,7 @@ impl Separable for PlotFold {
     ghost gates_rested = { gates_rested };
 
     fn members(state: &Tracks) -> u32 {
-        state.table().tracks().len() as u32
+        state.tracks().len() as u32
     }
 
     fn choose(
@@ -78,31 +79,28 @@ impl Separable for PlotFold {
         items: &[PlanePlot],
         wish: u8,
     ) -> Result<Vec<u8>, NoMemory> {
-        part_numbers(alloc, state.table().tracks(), items, wish)
+        part_numbers(alloc, state.tracks(), items, wish)
     }
 
-    fn split(
-        alloc: Global,
-        state: &Tracks,
-        numbers: &[u8],
-        part: u8,
-    ) -> Result<Tracks, NoMemory> {
-        let picked = picked_tracks(alloc, state.table().tracks(), numbers, part)?;
+    fn split(alloc: Global, state: &Tracks, numbers: &[u8], part: u8) -> Result<Tracks, NoMemory> {
+        let picked = picked_tracks(alloc, state.tracks(), numbers, part)?;
         Ok(Tracks::of(*state.life(), Table::of(picked)))
     }
 
     fn crosses(
-        _alloc: Global,
-        _state: &Tracks,
-        _slot: u64,
-        _own: &[PlanePlot],
-        _other: &[PlanePlot],
+        alloc: Global,
+        state: &Tracks,
+        slot: u64,
+        own: &[PlanePlot],
+        other: &[PlanePlot],
     ) -> Result<bool, NoMemory> {
-        Err(NoMemory)
+        let batches = slot_batches(alloc, slot, own)?;
+        let others = slot_batches(alloc, slot, other)?;
+        reaches(alloc, state.table(), slot, &batches, &others, state.life())
     }
 
     fn merge(alloc: Global, one: &Tracks, other: &Tracks) -> Result<Tracks, NoMemory> {
-        let tracks = woven_tracks(alloc, one.table().tracks(), other.table().tracks())?;
+        let tracks = woven_tracks(alloc, one.tracks(), other.tracks())?;
         if tracks.len() >= u32::MAX as usize {
             return Err(NoMemory);
         }
@@ -121,22 +119,19 @@ impl Separable for PlotFold {
         requires { 0 < length outs.items }
         ensures { IfOk result (λ out. IsJoin both_certs outs.items out) }
     {
-        Ok(Sequence::of(all_certs(alloc, outs)?))
+        let certs = all_certs(alloc, outs)?;
+        Ok(Sequence::of(certs))
     }
 }
 
-// The certificates of all, two lists put in order as one at a time.
+// The certificates of all, one list after the other put in order with those before it.
 fn all_certs(alloc: Global, outs: Vec<Sequence<KeyedCert>>) -> Result<Vec<KeyedCert>, NoMemory>
-    requires { 0 < length outs.items }
-    ensures { IfOk result (λ certs. IsJoin both_certs outs.items certs.items) }
+    ensures { IfOk result (λ certs. certs.items ≡ fold both_certs [] outs.items) }
 {
-    let mut rest = outs.into_iter();
-    let mut certs = match rest.next() {
-        Some(first) => first.into_vec(),
-        None => Vec::new(alloc),
-    };
-    while let Some(more) = rest.next() {
-        certs = woven_certs(alloc, certs, more.into_vec())?;
+    let mut certs = Vec::new(alloc);
+    for out in outs {
+        let more = woven_certs(alloc, certs, out.into_vec())?;
+        certs = more;
     }
     Ok(certs)
 }

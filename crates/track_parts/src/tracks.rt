@@ -1,9 +1,10 @@
 // Tracks that are folded by themselves.
 ghost use Rattle.std.specs.Prelude.{◌≡◌};
+ghost use Rattle.track_life.specs.Tables.{IsTable};
 
 use std::alloc::Global;
 use std::marker::Model;
-use track_life::{LifeSettings, Table};
+use track_life::{LifeSettings, Table, Track};
 use trk_base::{NoMemory, TryCopy};
 
 /// Some of the tracks at a time, all, or a part of them, and how long tracks live.
@@ -43,11 +44,19 @@ impl Tracks {
         &self.life
     }
 
-    /// The tracks, to read.
+    /// The tracks as a table, to read.
     pub fn table(&self) -> &Table
         ensures { result.now ≡ self.now.table }
     {
         &self.table
+    }
+
+    /// The tracks, to read.
+    pub fn tracks(&self) -> &[Track]
+        ensures value { result.now ≡ self.now.table }
+        ensures table { IsTable result.now }
+    {
+        self.table.tracks()
     }
 }
 

@@ -1,15 +1,14 @@
-use Rattle.std.proofs.Common.{rules, ◌≡◌, ◌<◌, ◌≤◌, ◌+◌, ◌↔◌, ◌==◌, length, IfOk, IsTrue, All, ℕ, List, ◌-◌, ◌*◌, ◌/◌, ◌%◌, Bool, true, false, nat_eq, nat_lt, [], ◌∷◌, ◌++◌, slice_index_or, slice_set, bit_and, bit_or, Fits, w8, w32, w64, Bor, MutBor}
-use Rattle.late_window.specs.Folding.{Rises, InSlot}
-use Rattle.span_clusters.specs.Interleavings.{IsJoin}
-use Rattle.span_clusters.specs.Parts.{Reaches}
-use Rattle.track_parts.specs.Tracking.{both_certs, picked, merged, gates, SharesNone}
-use Rattle.track_parts.specs.Laws.{picks_all, picks_before, picks_beside, picks_merged, beside_back, beside_merged, beside_next, merged_back, merged_rest, merged_before, gates_merged, next_merged, out_merged, out_alone, next_rested, out_rested, gates_rested}
+use Rattle.std.proofs.Common.{rules, ◌≡◌, ◌∙◌, ◌<◌, ◌^◌, ◌-◌, length}
+use Rattle.track_parts.specs.Tracking.{woven_by, by_birth}
+use Rattle.track_parts.proofs.Stepping.{woven_tables, merged_table}
 use Rattle.track_parts.proofs.parts.PlotFoldSeparable.merge.Goals as goal
 
--- src/parts.rt:109:36
 pub of-requires : goal.of-requires
-of-requires c = ?
+of-requires c =
+    let few : length c.in_ok-tracks.tracks.items < 2 ^ 32 - 1 = search rules in
+    merged_table c.args.one.now c.args.other.now c.in_ok-tracks.tracks.items c.requires (c.in_ok-tracks.ensures ∙ (λ i. woven_by by_birth (c.tracks.ensures.value i) (c.tracks-2.ensures.value i))) few
 
--- src/parts.rt:104:5
 pub returns : goal.returns
-returns c = ?
+returns c =
+    let woven = c.in_ok-tracks.ensures ∙ (λ i. woven_by by_birth (c.tracks.ensures.value i) (c.tracks-2.ensures.value i)) in
+    λ i. record { life = (c.of-2.ensures.life ∙ c.life.ensures) i; table = (c.of-2.ensures.table ∙ c.of.ensures ∙ woven ∙ woven_tables c.args.one.now c.args.other.now c.requires) i }
