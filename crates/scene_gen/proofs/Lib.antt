@@ -15,3 +15,4 @@ pub mod FleetPhases
 pub mod Playing
 pub mod Making
 pub mod Arriving
+pub mod Fitting

@@ -17,6 +17,6 @@ mod sweeps;
 #[cfg(test)]
 mod tests;
 
-pub use laws::{all_come, one_list_of_radars};
+pub use laws::{all_come, one_list_of_radars, one_recording};
 pub use radars::{RADARS, SceneRadar};
 pub use scenes::scene;

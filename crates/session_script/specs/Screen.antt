@@ -7,23 +7,29 @@ use Rattle.session_script.specs.declared.status.Spot.TheVariants as spots
 use Rattle.session_script.specs.declared.status.Status.{Status}
 use Rattle.session_script.specs.declared.status.Status.TheVariants.{Done, Usage, Settings, Input, Read, Write, Memory, NotProved}
 
-abbrev pub spot_line : List ℕ → Spot → List ℕ
-spot_line what spots.Settings = what ++ codes ": Settings\n"
-spot_line what spots.Input = what ++ codes ": Input\n"
-spot_line what spots.Output = what ++ codes ": Output\n"
-spot_line what spots.Prices = what ++ codes ": Prices\n"
-spot_line what spots.Screen = what ++ codes ": Screen\n"
-spot_line what (spots.Feed number) = what ++ (codes ": feed " ++ (decimal number ++ codes "\n"))
-spot_line what (spots.Outlet number) = what ++ (codes ": outlet " ++ (decimal number ++ codes "\n"))
-spot_line what spots.Clock = what ++ codes ": Clock\n"
+-- what can fail
+abbrev pub spot_text : Spot → List ℕ
+spot_text spots.Settings = codes "Settings"
+spot_text spots.Input = codes "Input"
+spot_text spots.Output = codes "Output"
+spot_text spots.Prices = codes "Prices"
+spot_text spots.Screen = codes "Screen"
+spot_text (spots.Feed number) = codes "feed " ++ decimal number
+spot_text (spots.Outlet number) = codes "outlet " ++ decimal number
+spot_text spots.Clock = codes "Clock"
 
--- the line of an answer; the one where all was done has none
+-- an answer, without the end of its line
+abbrev pub status_text : Status → List ℕ
+status_text Done = codes "done"
+status_text Usage = codes "usage: tracker replay, check, scene, exercise or serve"
+status_text (Settings fault) = fault_text fault
+status_text (Input offset) = codes "input: offset " ++ decimal offset
+status_text (Read spot) = codes "read: " ++ spot_text spot
+status_text (Write spot) = codes "write: " ++ spot_text spot
+status_text Memory = codes "no memory"
+status_text (NotProved index offset) = codes "not proved: certificate " ++ (decimal index ++ (codes " at offset " ++ decimal offset))
+
+-- its line; where all was done there is none
 abbrev pub status_line : Status → List ℕ
 status_line Done = []
-status_line Usage = codes "usage: tracker replay, check, scene, exercise or serve\n"
-status_line (Settings fault) = fault_text fault ++ codes "\n"
-status_line (Input offset) = codes "input: offset " ++ (decimal offset ++ codes "\n")
-status_line (Read spot) = spot_line (codes "read") spot
-status_line (Write spot) = spot_line (codes "write") spot
-status_line Memory = codes "no memory\n"
-status_line (NotProved index offset) = codes "not proved: certificate " ++ (decimal index ++ (codes " at offset " ++ (decimal offset ++ codes "\n")))
+status_line status = status_text status ++ codes "\n"

@@ -1,9 +1,54 @@
 // The text of each way to end.
 ghost use Rattle.std.specs.Prelude.{◌≡◌, IfOk, string_bytes};
-ghost use Rattle.session_script.specs.Screen.{spot_line, status_line};
+ghost use Rattle.session_script.specs.Screen.{status_line};
 
 use crate::status::{Spot, Status};
 use std::alloc::{AllocError, Global};
+use std::fmt;
+
+/// What can fail, as an answer names it.
+impl fmt::Display for Spot {
+    ghost use Rattle.std.specs.Prelude.{Some};
+    ghost use Rattle.session_script.specs.Screen.{spot_text};
+
+    ghost output = { λ spot. Some (spot_text spot) };
+
+    fn fmt<W: fmt::Write>(&self, f: &mut fmt::Formatter<W>) -> fmt::Result {
+        match self {
+            Spot::Settings => write!(f, "Settings"),
+            Spot::Input => write!(f, "Input"),
+            Spot::Output => write!(f, "Output"),
+            Spot::Prices => write!(f, "Prices"),
+            Spot::Screen => write!(f, "Screen"),
+            Spot::Feed(number) => write!(f, "feed {number}"),
+            Spot::Outlet(number) => write!(f, "outlet {number}"),
+            Spot::Clock => write!(f, "Clock"),
+        }
+    }
+}
+
+/// One line, without its end.
+impl fmt::Display for Status {
+    ghost use Rattle.std.specs.Prelude.{Some};
+    ghost use Rattle.session_script.specs.Screen.{status_text};
+
+    ghost output = { λ status. Some (status_text status) };
+
+    fn fmt<W: fmt::Write>(&self, f: &mut fmt::Formatter<W>) -> fmt::Result {
+        match self {
+            Status::Done => write!(f, "done"),
+            Status::Usage => write!(f, "usage: tracker replay, check, scene, exercise or serve"),
+            Status::Settings(fault) => write!(f, "{fault}"),
+            Status::Input { offset } => write!(f, "input: offset {offset}"),
+            Status::Read(spot) => write!(f, "read: {spot}"),
+            Status::Write(spot) => write!(f, "write: {spot}"),
+            Status::Memory => write!(f, "no memory"),
+            Status::NotProved { index, offset } => {
+                write!(f, "not proved: certificate {index} at offset {offset}")
+            }
+        }
+    }
+}
 
 /// The line that tells how a command ended. Where all was done there is none.
 pub fn status_line(alloc: Global, status: &Status) -> Result<String, AllocError>
@@ -11,33 +56,6 @@ pub fn status_line(alloc: Global, status: &Status) -> Result<String, AllocError>
 {
     match status {
         Status::Done => Ok(String::new(alloc)),
-        Status::Usage => String::from_str(
-            alloc,
-            "usage: tracker replay, check, scene, exercise or serve\n",
-        ),
-        Status::Settings(fault) => format!(in alloc; "{fault}\n"),
-        Status::Input { offset } => format!(in alloc; "input: offset {offset}\n"),
-        Status::Read(spot) => spot_line(alloc, "read", *spot),
-        Status::Write(spot) => spot_line(alloc, "write", *spot),
-        Status::Memory => String::from_str(alloc, "no memory\n"),
-        Status::NotProved { index, offset } => {
-            format!(in alloc; "not proved: certificate {index} at offset {offset}\n")
-        }
-    }
-}
-
-// The line of a place that failed.
-fn spot_line(alloc: Global, what: &str, spot: Spot) -> Result<String, AllocError>
-    ensures { IfOk result (λ s. string_bytes s ≡ spot_line what.now spot) }
-{
-    match spot {
-        Spot::Settings => format!(in alloc; "{what}: Settings\n"),
-        Spot::Input => format!(in alloc; "{what}: Input\n"),
-        Spot::Output => format!(in alloc; "{what}: Output\n"),
-        Spot::Prices => format!(in alloc; "{what}: Prices\n"),
-        Spot::Screen => format!(in alloc; "{what}: Screen\n"),
-        Spot::Feed(number) => format!(in alloc; "{what}: feed {number}\n"),
-        Spot::Outlet(number) => format!(in alloc; "{what}: outlet {number}\n"),
-        Spot::Clock => format!(in alloc; "{what}: Clock\n"),
+        _ => format!(in alloc; "{status}\n"),
     }
 }

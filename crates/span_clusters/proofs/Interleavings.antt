@@ -83,6 +83,16 @@ module _ {X : Type 0} where
   two_first _ _ _ _ _ (second y xs us zs m) (first _ ys vs _ k) = let r : (ws : List X) × Interleaved xs ys ws × Interleaved ws vs zs = two_first xs us ys vs zs m k in (y ∷ r.0, second y _ _ _ r.1, first y _ _ _ r.2)
   two_first _ _ _ _ _ (second y xs us zs m) (second _ ys vs _ k) = let r : (ws : List X) × Interleaved xs ys ws × Interleaved ws vs zs = two_first xs us ys vs zs m k in (r.0, r.1, second y _ _ _ r.2)
 
+  -- of three lists the last two are put together first
+  pub last_two_first : (us vs ws rest zs : List X) → Interleaved us vs ws → Interleaved ws rest zs → (os : List X) × Interleaved vs rest os × Interleaved us os zs
+  last_two_first us vs ws rest zs m n =
+      let t : (os : List X) × Interleaved rest vs os × Interleaved os us zs = two_first rest ws vs us zs (swapped _ _ _ n) (swapped _ _ _ m) in
+      (t.0, swapped _ _ _ t.1, swapped _ _ _ t.2)
+
+  pub none_behind : (xs : List X) → Interleaved xs [] xs
+  none_behind [] = neither
+  none_behind (x ∷ xs) = first x xs [] xs (none_behind xs)
+
   pub all_filter : (P : X → Type 0) (f : X → Bool) (xs : List X) → AllByRecursion P xs → AllByRecursion P (filter f xs)
   all_filter P f [] h = tt
   all_filter P f (x ∷ xs) h = cond_both (f x) (x ∷ filter f xs) (filter f xs) (AllByRecursion P) (λ e. (h.0, all_filter P f xs h.1)) (λ e. all_filter P f xs h.1)
@@ -130,6 +140,19 @@ module _ {X : Type 0} where
   pub each_rises : {K : Type 0} (cmp : X → X → Ordering) (key : X → K) (xss : List (List X)) (zs : List X) → AllInterleaved xss zs → Rises cmp key zs → AllByRecursion (Rises cmp key) xss
   each_rises cmp key [] zs m h = tt
   each_rises cmp key (xs ∷ xss) zs m h = (first_rises cmp key xs m.0 zs m.1 h, each_rises cmp key xss m.0 m.2 (first_rises cmp key m.0 xs zs (swapped xs m.0 zs m.1) h))
+
+  pub kept_passes : (f : X → Bool) (y : X) (xs : List X) → Contains (filter f xs) y → f y ≡ true
+  kept_passes f y [] c = absurd (omega (arith, c.1))
+  kept_passes f y (x ∷ xs) c = cond_both (f x) (x ∷ filter f xs) (filter f xs) (λ l. Contains l y → f y ≡ true)
+      (λ e d. elim (contains_cons x y (filter f xs) d) [ inl a ↦ ap f (sym a) ∙ e | inr b ↦ kept_passes f y xs b ])
+      (λ e d. kept_passes f y xs d) c
+
+  pub passing_kept : (f : X → Bool) (y : X) (xs : List X) → Contains xs y → f y ≡ true → Contains (filter f xs) y
+  passing_kept f y [] c e = absurd (omega (arith, c.1))
+  passing_kept f y (x ∷ xs) c e = elim (contains_cons x y xs c) [
+    | inl a ↦ rw (ap f a ∙ e) (contains_first x y (filter f xs) a)
+    | inr d ↦ cond_both (f x) (x ∷ filter f xs) (filter f xs) (λ l. Contains l y) (λ h. contains_later x y (filter f xs) (passing_kept f y xs d e)) (λ h. passing_kept f y xs d e)
+  ]
 
   pub in_filter : (f : X → Bool) (y : X) (xs : List X) → Contains (filter f xs) y → Contains xs y
   in_filter f y [] c = c

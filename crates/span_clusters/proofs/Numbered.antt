@@ -6,7 +6,7 @@ use Rattle.std.proofs.lemmas.Bool.{eqb-true, cond_both, eq-eqb}
 use Rattle.span_clusters.specs.Interleavings.{Interleaved, AllInterleaved, EachPair}
 use Rattle.span_clusters.specs.Parts.{Part, IsSplitting, starts, all_items, picked_items, numbered}
 use Rattle.span_clusters.specs.Interleavings.Interleaved.{neither, first, second}
-use Rattle.span_clusters.proofs.Interleavings.{swapped, two_first, contains_cons}
+use Rattle.span_clusters.proofs.Interleavings.{last_two_first, none_behind, contains_cons}
 use Rattle.span_clusters.proofs.OneSlot.{all_weaker}
 
 abbrev pub Disjoint : (ℕ → Bool) → (ℕ → Bool) → Type 0
@@ -82,22 +82,12 @@ picks_all_items {I} f (k ∷ numbers) (x ∷ xs) l h = rw h.0 (ap (λ (ys : List
 -- what is picked number by number is put together
 mixed_picks : {I : Type 0} (f : ℕ → Bool) (ks : List ℕ) (numbers : List ℕ) (xs : List I) → AllByRecursion (λ k. f k ≡ false) ks → EachPair (λ i j. i ≢ j) ks
     → AllInterleaved (picked_items f numbers xs ∷ map (λ k. picked_items (λ j. eqb j k) numbers xs) ks) (picked_items (any_of f ks) numbers xs)
-mixed_picks f [] numbers xs h d = ([], mix_nil (picked_items f numbers xs), refl)
-  where
-    mix_nil : {I : Type 0} (us : List I) → Interleaved us [] us
-    mix_nil [] = neither
-    mix_nil (u ∷ us) = first u us [] us (mix_nil us)
+mixed_picks f [] numbers xs h d = ([], none_behind (picked_items f numbers xs), refl)
 mixed_picks {I} f (k ∷ ks) numbers xs h d =
     let r : AllInterleaved (picked_items (or_is f k) numbers xs ∷ map (λ k. picked_items (λ j. eqb j k) numbers xs) ks) (picked_items (any_of (or_is f k) ks) numbers xs) = mixed_picks (or_is f k) ks numbers xs (later_false f k ks h.1 d.0) d.1 in
     let m : Interleaved (picked_items f numbers xs) (picked_items (λ j. eqb j k) numbers xs) (picked_items (or_is f k) numbers xs) = picks_mix f (λ j. eqb j k) numbers xs (λ j. and_eq f j k h.0) in
-    let t : (ws : List I) × Interleaved (picked_items (λ j. eqb j k) numbers xs) r.0 ws × Interleaved (picked_items f numbers xs) ws (picked_items (any_of (or_is f k) ks) numbers xs) = mix_last _ _ _ _ _ m r.1 in
+    let t : (ws : List I) × Interleaved (picked_items (λ j. eqb j k) numbers xs) r.0 ws × Interleaved (picked_items f numbers xs) ws (picked_items (any_of (or_is f k) ks) numbers xs) = last_two_first _ _ _ _ _ m r.1 in
     (t.0, t.2, (r.0, t.1, r.2))
-  where
-    -- of three lists the last two are put together first
-    mix_last : (us vs ws rest zs : List I) → Interleaved us vs ws → Interleaved ws rest zs → (os : List I) × Interleaved vs rest os × Interleaved us os zs
-    mix_last us vs ws rest zs m n =
-        let t : (os : List I) × Interleaved rest vs os × Interleaved os us zs = two_first rest ws vs us zs (swapped _ _ _ n) (swapped _ _ _ m) in
-        (t.0, swapped _ _ _ t.1, swapped _ _ _ t.2)
 
 module _ {S I : Type 0} (slot : I → ℕ) (is_before : S → ℕ → Type 0) (is_beside : S → S → Type 0) (merged : S → S → S) (count : S → ℕ) (picked : S → List ℕ → (ℕ → Bool) → S)
     (stays_before : (s : S) (a b : ℕ) → a ≤ b → is_before s a → is_before s b)

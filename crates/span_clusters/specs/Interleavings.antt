@@ -1,6 +1,8 @@
 -- Lists put together, each in its own order.
 use Rattle.std.specs.Prelude.{◌≡◌, ◌≢◌, List, [], ◌∷◌, Contains, fold}
 use Rattle.std.specs.List.{AllByRecursion}
+use Rattle.std.specs.declared.cmp.Ordering.{Ordering}
+use Rattle.std.specs.declared.cmp.Ordering.TheVariants.{Less}
 
 -- zs is xs and ys, interleaved
 pub data Interleaved {X : Type 0} : List X → List X → List X → Type 0 where
@@ -12,6 +14,15 @@ pub data Interleaved {X : Type 0} : List X → List X → List X → Type 0 wher
 abbrev pub AllInterleaved : {X : Type 0} → List (List X) → List X → Type 0
 AllInterleaved [] zs = zs ≡ []
 AllInterleaved {X} (xs ∷ xss) zs = (rest : List X) × Interleaved xs rest zs × AllInterleaved xss rest
+
+-- some of zs, in their order
+abbrev pub IsWithin : {X : Type 0} → List X → List X → Type 0
+IsWithin {X} xs zs = (rest : List X) × Interleaved xs rest zs
+
+-- x is below the first of the list, where there is one
+abbrev pub IsBelowFirst : {X : Type 0} → (X → X → Ordering) → X → List X → Type 0
+IsBelowFirst cmp x [] = Unit {0}
+IsBelowFirst cmp x (y ∷ ys) = cmp x y ≡ Less
 
 -- no key stands in both
 abbrev pub KeysDiffer : {X K : Type 0} → (X → K) → List X → List X → Type 0

@@ -1,11 +1,12 @@
 // Parts that are to be run, and those that were.
-ghost use Rattle.std.specs.Prelude.{◌≡◌, IfOk, length};
-ghost use Rattle.late_window.specs.Folding.{states, AreOutsOf};
+ghost use Rattle.std.specs.Prelude.{◌≡◌, ◌+◌, IfOk, length};
+ghost use Rattle.late_window.specs.Folding.{Rises, BeforeFirst, slots, states, AreOutsOf};
 
-use late_window::{Fold, run_slots};
+use late_window::{Fold, count_slots, run_slots};
 use std::alloc::Global;
 use std::marker::Model;
-use trk_base::{NoMemory, Ticket};
+use std::sync::ledger::Ledger;
+use trk_base::{NoMemory, Steps, Ticket, charge};
 
 /// A part of a span that is to be run. Its items strictly rise, its start is before the first one's
 /// slot, and its ticket has a step for each slot that they fill.
@@ -63,6 +64,29 @@ impl<F: Fold> Job<F> {
             states,
             outs,
         })
+    }
+}
+
+// The job of a part, with a ticket for the slots that it fills, which the counter counts at once.
+pub(crate) fn charged<F: Fold, L: Ledger>(
+    number: u8,
+    start: F::State,
+    items: Vec<F::Item>,
+    steps: &mut Steps<L>,
+) -> Job<F>
+    requires rising { Rises F.Item.cmp F.key_of items.items }
+    requires before { BeforeFirst F.is_before F.slot_of start items.items }
+    ensures number { result.number ≡ number }
+    ensures start { result.start ≡ start }
+    ensures items { result.items ≡ items.items }
+    ensures count { steps.new ≡ steps.old + length (slots F.slot_of items.items) }
+{
+    let ticket = charge(count_slots::<F>(&items) as u64, steps);
+    Job {
+        number,
+        start,
+        items,
+        ticket,
     }
 }
 

@@ -1,40 +1,18 @@
 // Two parts that cross, as one.
 ghost use Rattle.std.specs.Prelude.{◌≡◌, ◌≢◌, ◌+◌, ◌++◌, length, IfOk, OnErr, min};
 ghost use Rattle.std.specs.List.{AllByRecursion};
-ghost use Rattle.late_window.specs.Folding.{Rises, BeforeFirst, slots};
+ghost use Rattle.late_window.specs.Folding.{Rises, slots};
 ghost use Rattle.span_clusters.specs.Interleavings.{Interleaved, KeysDiffer};
 
+use crate::jobs::charged;
 use crate::{Done, Job, Separable};
-use late_window::{Fold, count_slots};
+use late_window::Fold;
 use std::alloc::Global;
 use std::sync::ledger::Ledger;
-use trk_base::{NoMemory, Steps, charge};
-
-// The job of a part, with a ticket for the slots that it fills, which the counter counts at once.
-fn charged<F: Fold, L: Ledger>(
-    number: u8,
-    start: F::State,
-    items: Vec<F::Item>,
-    steps: &mut Steps<L>,
-) -> Job<F>
-    requires rising { Rises F.Item.cmp F.key_of items.items }
-    requires before { BeforeFirst F.is_before F.slot_of start items.items }
-    ensures number { result.number ≡ number }
-    ensures start { result.start ≡ start }
-    ensures items { result.items ≡ items.items }
-    ensures count { steps.new ≡ steps.old + length (slots F.slot_of items.items) }
-{
-    let ticket = charge(count_slots::<F>(&items) as u64, steps);
-    Job {
-        number,
-        start,
-        items,
-        ticket,
-    }
-}
+use trk_base::{NoMemory, Steps};
 
 // The items of both, in rising order.
-fn merged_items<F: Fold>(
+pub(crate) fn merged_items<F: Fold>(
     alloc: Global,
     one: &[F::Item],
     other: &[F::Item],

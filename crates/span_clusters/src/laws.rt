@@ -1,9 +1,10 @@
 // Laws of parts.
-ghost use Rattle.std.specs.Prelude.{◌≡◌, ◌≢◌, ◌≤◌, ◌+◌, ℕ, List, ◌∷◌, length, map, Contains};
+ghost use Rattle.std.specs.Prelude.{◌≡◌, ◌≢◌, ◌≤◌, ◌+◌, ◌*◌, ℕ, List, ◌∷◌, length, map, Contains};
 ghost use Rattle.std.specs.List.{AllByRecursion};
-ghost use Rattle.late_window.specs.Folding.{Rises, at_slot, before, after};
+ghost use Rattle.late_window.specs.Folding.{Rises, at_slot, slots, before, after};
 ghost use Rattle.span_clusters.specs.Interleavings.{Interleaved, EachPair, IsJoin};
 ghost use Rattle.span_clusters.specs.Parts.{Part, DontCross, IsSplitting, IsFilled, states_after, AreOutsAt, numbered, Without, joined};
+ghost use Rattle.span_clusters.specs.Jobs.{NumbersDiffer, AreParts, filled_slots};
 
 use crate::Separable;
 
@@ -33,4 +34,19 @@ pub fn joined_parts<F: Separable>()
     ensures { (s : F.State) (all : List F.Item) (p q : Part F.State F.Item) (parts others rest : List (Part F.State F.Item)) (items : List F.Item) → Rises F.Item.cmp F.key_of all
         → IsSplitting F.slot_of F.is_before F.is_beside F.merged s all parts → Without p parts others → Without q others rest → Interleaved p.items q.items items → Rises F.Item.cmp F.key_of items
         → IsSplitting F.slot_of F.is_before F.is_beside F.merged s all (joined F.merged p q items ∷ rest) × (length (joined F.merged p q items ∷ rest) + 1 ≡ length parts) }
+{}
+
+/// The parts of a splitting of items that rise, where their numbers differ, share no item, and each
+/// is before the slots of the others' items: so crossings are told of them, and any two are joined.
+pub fn splitting_parts<F: Separable>()
+    ensures { (s : F.State) (items : List F.Item) (parts : List (Part F.State F.Item)) → Rises F.Item.cmp F.key_of items
+        → IsSplitting F.slot_of F.is_before F.is_beside F.merged s items parts → NumbersDiffer parts → AreParts F.slot_of F.key_of F.is_before F.is_beside parts }
+{}
+
+/// Each part of a splitting fills at most the slots of the whole.
+pub fn few_slots<F: Separable>()
+    ensures each { (s : F.State) (items : List F.Item) (parts : List (Part F.State F.Item)) → IsSplitting F.slot_of F.is_before F.is_beside F.merged s items parts
+        → AllByRecursion (λ p. length (slots F.slot_of p.items) ≤ length (slots F.slot_of items)) parts }
+    ensures together { (s : F.State) (items : List F.Item) (parts : List (Part F.State F.Item)) → IsSplitting F.slot_of F.is_before F.is_beside F.merged s items parts
+        → filled_slots F.slot_of parts ≤ length parts * length (slots F.slot_of items) }
 {}

@@ -1,5 +1,5 @@
 -- An engine that stands for the first events of a log takes in those up to a cut.
-use Rattle.std.proofs.Common.{◌≡◌, ◌∙◌, ap, sym, subst, refl, ℕ, ◌+◌, ◌-◌, ◌<◌, ◌≤◌, List, [], ◌++◌, length, take, drop, cond, arith}
+use Rattle.std.proofs.Common.{◌≡◌, ◌∙◌, ap, sym, subst, ℕ, ◌+◌, ◌-◌, ◌<◌, ◌≤◌, List, [], ◌++◌, length, take, drop, arith}
 use Rattle.std.proofs.lemmas.Bool.{ne_eqb, cond-false}
 use Rattle.std.proofs.lemmas.List.{take-take, take-append-drop, drop-take, length-take-le}
 use Rattle.admission_log.specs.declared.settings.Settings.{Settings}
@@ -7,9 +7,8 @@ use Rattle.admission_log.specs.declared.events.Event.{Event}
 use Rattle.admission_log.specs.Histories.{History, first}
 use Rattle.admission_log.specs.Legality.{IsLegal}
 use Rattle.admission_log.proofs.Prefixes.{prefix_legal}
-use Rattle.edition_form.specs.declared.lines.ShownLine.{ShownLine}
 use Rattle.edition_form.specs.Datagrams.{shown_of, shown_at}
-use Rattle.tracker_engine.specs.Engines.{EngineState, StandsFor, Continues, IsAllSettled, with_events}
+use Rattle.tracker_engine.specs.Engines.{EngineState, StandsFor, Continues, with_events}
 
 -- the events between two cuts
 abbrev pub between : History → ℕ → ℕ → List Event

@@ -10,7 +10,7 @@ use Rattle.slot_step.specs.declared.certs.KeyedCert.{KeyedCert}
 use Rattle.admission_log.specs.declared.settings.Settings.{Settings}
 use Rattle.admission_log.specs.Histories.{History, first, low_at}
 use Rattle.edition_form.specs.Certificates.{AreLogCertificates}
-use Rattle.edition_form.specs.Prices.{ArePricesOf, edition_octets}
+use Rattle.edition_form.specs.Prices.{ArePricesOf}
 use Rattle.tracker_fold.specs.Priced.{told_octets}
 use Rattle.tracker_engine.specs.Engines.{EngineState, StandsFor}
 use Rattle.tracker_engine.proofs.Tables.{certs_shown}

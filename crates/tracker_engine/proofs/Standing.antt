@@ -8,7 +8,7 @@ use Rattle.std.proofs.lemmas.List.Sorted.{IsPermutation-trans, IsPermutation-app
 use Rattle.trk_base.specs.Numbers.{slot_of}
 use Rattle.late_window.specs.Folding.{below, slots}
 use Rattle.late_window.specs.Windows as windows
-use Rattle.late_window.specs.Windows.{folded, dirty_slots, AreNew, AreInOrder}
+use Rattle.late_window.specs.Windows.{folded, dirty_slots, AreNew}
 use Rattle.admission_log.specs.declared.settings.Settings.{Settings}
 use Rattle.admission_log.specs.declared.events.Event.{Event}
 use Rattle.admission_log.specs.declared.entries.Entry.{Entry}

@@ -92,7 +92,7 @@ pub fn append_prices(
     ensures { OnOk result (octets.new.items ≡ octets.old.items ++ flat_map (λ o. told_octets o.1) (filter (λ o. nat_le low o.0) outs.now)) }
 {
     for (slot, told) in outs {
-        if *slot >= low {
+        if low <= *slot {
             octets.extend_from_slice(told.octets())?;
         }
     }

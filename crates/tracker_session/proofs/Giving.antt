@@ -1,5 +1,5 @@
 -- What the script of each command gives, by its definition.
-use Rattle.std.proofs.Common.{◌≡◌, ◌∙◌, ◌⊎◌, inl, inr, ap, refl, sym, arith, ℕ, List, [], ◌∷◌, length}
+use Rattle.std.proofs.Common.{◌≡◌, ◌∙◌, inl, inr, ap, refl, sym, arith, ℕ, List, [], ◌∷◌, length}
 use Rattle.std.specs.Prelude.{Option, None, Ok, Err, Result}
 use Rattle.std.proofs.lemmas.List.{take_all}
 use Rattle.io_traits.specs.declared.host.Place.{Place}
@@ -8,16 +8,17 @@ use Rattle.io_traits.specs.declared.host.Way.TheVariants as ways
 use Rattle.admission_log.specs.declared.settings.Settings as admission
 use Rattle.settings_text.specs.declared.faults.SettingsFault.{SettingsFault}
 use Rattle.settings_text.specs.Answers.{IsSettingsAnswer}
-use Rattle.session_script.specs.Scripts.{Binding, End, GetsNothing, Gives, StopsHere, opens, piece_for, read_of}
+use Rattle.session_script.specs.Scripts.{Binding, End, Gives, StopsHere, opens, piece_for, read_of}
 use Rattle.tracker_session.specs.Check.{CheckGives, check_script}
 use Rattle.tracker_session.specs.Commands.{CommandGives, script_of}
 use Rattle.tracker_session.specs.Counting.{counts_of}
+use Rattle.tracker_session.specs.Exercise.{ExerciseGives, exercise_script}
 use Rattle.tracker_session.specs.Inputs.{tells_biases}
 use Rattle.scene_gen.specs.Scenes.{scene as drawn}
 use Rattle.tracker_session.specs.ReplayGives.{HasSettings, ReplayGives, Wrote, all_bound, reading, opening, began, prefixes}
 use Rattle.tracker_session.specs.ReplayScript.{input_script, prices_script, replay_script, under}
 use Rattle.tracker_session.specs.Scene.{RecordingGives, recording_script}
-use Rattle.tracker_session.specs.Words.{Line, replay, check, scene, other}
+use Rattle.tracker_session.specs.Words.{Line, replay, check, scene, exercise, other}
 use Rattle.tracker_session.proofs.Alike.{answer_alike, partly_alike, priced_alike, read_alike}
 use Rattle.tracker_session.proofs.Verdicts.{checks_alike}
 use Rattle.tracker_session.proofs.GivingItems.{PricesGive, no_more, no_piece, prices_give}
@@ -135,11 +136,18 @@ recording_gives octets output holds bound gets stop (inr (rest, e, inr (more, fi
   end_is = h.2;
 })
 
+exercise_gives : (seed aircraft seconds late : ℕ) (holds : Place → List ℕ → Type 0) (bound : List Binding) (gets : Place → List ℕ) (stop : Option End) → Gives (exercise_script seed aircraft seconds late) holds bound gets stop → ExerciseGives seed aircraft seconds late bound gets stop
+unfolding Gives
+exercise_gives seed aircraft seconds late holds bound gets stop (inl s) = record { unbound = s.unbound; nothing = s.nothing; end_is = inr s.broken }
+exercise_gives seed aircraft seconds late holds bound gets stop (inr (e, inl s)) = record { unbound = s.unbound; nothing = s.nothing; end_is = inr s.broken }
+exercise_gives seed aircraft seconds late holds bound gets stop (inr (e, inr h)) = record { unbound = h.0; nothing = h.1; end_is = inl (e, h.2) }
+
 -- What the script of a line gives is what the line's definition says.
 pub command_gives : (line : Line) (holds : Place → List ℕ → Type 0) (bound : List Binding) (gets : Place → List ℕ) (stop : Option End) → Gives (script_of line) holds bound gets stop → CommandGives line holds bound gets stop
 unfolding Gives
 command_gives (replay settings input output prices workers) holds bound gets stop h = replay_gives settings input output prices holds bound gets stop h
 command_gives (check prices) holds bound gets stop h = check_gives prices holds bound gets stop h
 command_gives (scene seed aircraft seconds late output) holds bound gets stop h = recording_gives (drawn seed aircraft seconds late) output holds bound gets stop h
+command_gives (exercise seed aircraft seconds late workers) holds bound gets stop h = exercise_gives seed aircraft seconds late holds bound gets stop h
 command_gives other holds bound gets stop (inl s) = record { unbound = s.unbound; nothing = s.nothing; end_is = inr s.broken }
 command_gives other holds bound gets stop (inr h) = record { unbound = h.0; nothing = h.1; end_is = inl h.2 }

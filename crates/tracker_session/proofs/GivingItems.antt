@@ -6,41 +6,21 @@ use Rattle.std.proofs.lemmas.List.{drop_at, take_all, take_at}
 use Rattle.io_traits.specs.Touching.{same_place}
 use Rattle.io_traits.specs.declared.host.Place.{Place}
 use Rattle.io_traits.specs.declared.host.Place.TheVariants as places
-use Rattle.recording.specs.Items.{Item, datagram, tick, bias}
+use Rattle.recording.specs.Items.{Item}
 use Rattle.price_form.specs.Files.{magic}
 use Rattle.admission_log.specs.declared.settings.Settings as admission
 use Rattle.admission_log.specs.declared.events.Event.{Event}
-use Rattle.admission_log.specs.declared.events.Event.TheVariants.{Tick}
-use Rattle.admission_log.specs.Histories.{History, appended}
+use Rattle.admission_log.specs.Histories.{History}
 use Rattle.edition_form.specs.Prices.{ArePricesOf}
-use Rattle.session_script.specs.Scripts.{Binding, End, GetsFirst, GetsNothing, Gives, Script, StopsHere, ends, piece_for, writes}
+use Rattle.session_script.specs.Scripts.{Binding, End, GetsFirst, GetsNothing, Gives, Script, StopsHere, ends, piece_for}
 use Rattle.tracker_session.specs.Counting.{counts_of}
 use Rattle.tracker_session.specs.Inputs.{HasInput, tells_biases}
-use Rattle.tracker_session.specs.Replay.{Adds, AreOfAll, IsEditionAt, IsLogAfter, IsOutput, IsPrices, empty_log, log_with, newest}
+use Rattle.tracker_session.specs.Replay.{Adds, AreOfAll, IsEditionAt, IsLogAfter, IsOutput, IsPrices, empty_log, log_with}
 use Rattle.tracker_session.specs.ReplayGives.{BeganPrices, GetsBoth, ReplaysPartly, pieces_for}
 use Rattle.tracker_session.specs.ReplayScript.{Added, EditionOf, edition_script, end_at, ending, items_script, octets_script, prices_script}
 use Rattle.tracker_session.specs.Taking.{shows}
-use Rattle.tracker_session.proofs.Logs.{delivery_kinds}
-use Rattle.tracker_session.proofs.Outputs.{Grows, IsKept, grows_on, more_at_tick, none_more, nothing_given, output_kept, prices_kept}
-
--- ---- what an item makes of what is of all editions
-
-module _ (settings : admission.Settings) (AreOf : History → ℕ × ℕ → List ℕ → Type 0) (kept : IsKept AreOf) where
-  -- what gives no edition leaves it as it is
-  silent_grows : (log : History) (item : Item) (added : Option Event) → Adds settings log item added → shows added ≡ false → Grows AreOf log (log_with log added) []
-  silent_grows log item None h silent = nothing_given AreOf kept log log (λ octets is. is)
-  silent_grows log (datagram feed octets) (Some event) h silent = nothing_given AreOf kept log (appended log event) (λ o is. none_more AreOf kept log event o (delivery_kinds settings log feed octets h.0 event h.2).no_time is)
-  silent_grows log (tick time) (Some event) h silent = absurd (let shown : shows (Some event) ≡ true = ap (λ e. shows (Some e)) h.1 in cc)
-  silent_grows log (bias radar slot b) (Some event) h silent = subst (λ (e : Event). Grows AreOf log (appended log e) []) (sym h.1) (nothing_given AreOf kept log (appended log _) (λ o is. none_more AreOf kept log _ o refl is))
-
-  -- a tick gives that of the newest edition of the log with it
-  tick_grows : (log : History) (item : Item) (added : Option Event) (piece : List ℕ) → Adds settings log item added → shows added ≡ true → AreOf (log_with log added) (newest (log_with log added)) piece → Grows AreOf log (log_with log added) piece
-  tick_grows log item None piece h shown newly = absurd cc
-  tick_grows log (datagram feed x) (Some event) piece h shown newly = absurd (let silent = (delivery_kinds settings log feed x h.0 event h.2).kinds.tick_taken in cc)
-  tick_grows log (tick time) (Some event) piece h shown newly =
-      let is = subst (λ (e : Event). AreOf (appended log e) (newest (appended log e)) piece) h.1 newly in
-      subst (λ (e : Event). Grows AreOf log (appended log e) piece) (sym h.1) (λ octets. more_at_tick AreOf kept log time piece octets is)
-  tick_grows log (bias radar slot b) (Some event) piece h shown newly = absurd (let silent : shows (Some event) ≡ false = ap (λ e. shows (Some e)) h.1 in cc)
+use Rattle.tracker_session.proofs.Growing.{silent_grows, tick_grows}
+use Rattle.tracker_session.proofs.Outputs.{Grows, grows_on, nothing_given, output_kept, prices_kept}
 
 -- ---- what Output and Prices get, one piece behind the other
 

@@ -16,13 +16,10 @@ use Rattle.session_script.specs.Scripts.{End, Follows, Script, ends, writes}
 use Rattle.session_script.specs.declared.status.Status.TheVariants.{Memory}
 use Rattle.session_script.proofs.Following.{after_pick, at_end, ended_so, gave_up}
 use Rattle.tracker_session.specs.declared.counts.Counts.{Counts}
-use Rattle.tracker_session.specs.declared.taking.Run.{Run}
-use Rattle.tracker_session.specs.Counting.{counts_of}
 use Rattle.edition_form.specs.Prices.{ArePricesOf}
-use Rattle.tracker_session.specs.Replay.{IsEditionAt, IsReplayLog, empty_log, log_with, newest}
+use Rattle.tracker_session.specs.Replay.{IsEditionAt, log_with, newest}
 use Rattle.tracker_session.specs.ReplayScript.{Added, EditionOf, IsEndAt, edition_script, end_at, items_script}
-use Rattle.tracker_session.specs.Taking.{HasTaken, StandsFor, Takes, shows}
-use Rattle.tracker_session.proofs.Logs.{log_push}
+use Rattle.tracker_session.specs.Taking.{HasTaken, Progress, shows}
 
 -- ---- items as they lie in memory
 
@@ -46,22 +43,12 @@ none_left xs i all = drop_all i (items_of xs) (omega (arith, all, length-map xs 
 pub all_taken : (xs : List Held) (i : ℕ) → length xs ≤ i → take i (items_of xs) ≡ items_of xs
 all_taken xs i all = take_all i (items_of xs) (omega (arith, all, length-map xs item_of))
 
-next_taken : (xs : List Held) (i : ℕ) (d : Held) → i < length xs → take (i + 1) (items_of xs) ≡ take i (items_of xs) ++ item_of (get_or xs i d) ∷ []
+pub next_taken : (xs : List Held) (i : ℕ) (d : Held) → i < length xs → take (i + 1) (items_of xs) ≡ take i (items_of xs) ++ item_of (get_or xs i d) ∷ []
 next_taken xs i d lt = take_more (items_of xs) i (item_of d) (omega (arith, lt, length-map xs item_of)) ∙ ap (λ x. take i (items_of xs) ++ x ∷ []) (item_here xs i d (item_of d) lt)
-
--- ---- the run behind one more item
-
-pub stands_more : (settings : Settings) (tells : Bool) (start : ℕ) (xs : List Held) (i : ℕ) (d : Held) (shown : Bool) (run run' : Run) → i < length xs → StandsFor run settings tells start (take i (items_of xs)) → Takes settings (item_of (get_or xs i d)) shown run run' → StandsFor run' settings tells start (take (i + 1) (items_of xs))
-stands_more settings tells start xs i d shown run run' lt h t =
-    let next = next_taken xs i d lt in
-    record {
-      log = subst (λ (items : List Item). IsReplayLog settings start items run'.log) (sym next) (log_push settings (empty_log start) (take i (items_of xs)) run.log run'.log (item_of (get_or xs i d)) t.added h.log t.has.adds t.has.log);
-      counts = t.has.counts tells start (take i (items_of xs)) h.log h.counts ∙ ap (λ items. counts_of tells items run'.log) (sym next);
-    }
 
 -- ---- the script behind one more item
 
-module _ (settings : Settings) (next : History → Script) (run run' : Run) (item : Item) (items xs : List Item) (is : xs ≡ item ∷ items) (added : Option Event) (has : HasTaken settings item added run run') (end : End) (old new : HostState) where
+module _ (settings : Settings) (next : History → Script) (run run' : Progress) (item : Item) (items xs : List Item) (is : xs ≡ item ∷ items) (added : Option Event) (has : HasTaken settings item added run run') (end : End) (old new : HostState) where
   here : Follows (edition_script settings (log_with run.log added) (shows added) (items_script settings next (log_with run.log added) items)) end old new → Follows (items_script settings next run.log xs) end old new
   unfolding items_script
   here f = subst (λ (x : List Item). Follows (items_script settings next run.log x) end old new) (sym is) (after_pick (λ (a : Added settings run.log item). edition_script settings (log_with run.log a.event) (shows a.event) (items_script settings next (log_with run.log a.event) items)) (record { event = added; adds = has.adds }) end old new f)

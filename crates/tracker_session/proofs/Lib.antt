@@ -1,12 +1,16 @@
 pub mod Alike
+pub mod CertificateCounts
 pub mod Datagrams
 pub mod Deciding
+pub mod Exercising
 pub mod Faults
 pub mod Giving
 pub mod GivingItems
+pub mod Growing
 pub mod Inputs
 pub mod Items
 pub mod Logs
+pub mod Moving
 pub mod Nexts
 pub mod Numerals
 pub mod OneEnd
@@ -14,7 +18,10 @@ pub mod Outputs
 pub mod Provings
 pub mod Refusing
 pub mod Replayed
+pub mod SceneRadars
 pub mod SomeReplay
 pub mod Tallying
+pub mod Totaling
+pub mod Underway
 pub mod Verdicts
 pub mod Worked

@@ -1,24 +1,24 @@
 -- The next edition of a log, at a tick that was just taken.
-use Rattle.std.proofs.Common.{◌≡◌, ◌≤◌, ◌<◌, ◌∙◌, ap, sym, refl, subst, arith, ℕ, ◌+◌, ◌-◌, List, [], ◌∷◌, length, drop, take, Bool, true, false}
-use Rattle.std.specs.Prelude.{Option, Some, None, fold, if◌then◌else◌, ◌==◌}
+use Rattle.std.proofs.Common.{◌≡◌, ◌≤◌, ◌∙◌, ap, sym, refl, subst, arith, ℕ, ◌+◌, ◌-◌, List, [], ◌∷◌, ◌++◌, length, drop, append-nil, Bool, true, false}
+use Rattle.std.specs.Prelude.{Option, Some, None, All, fold, if◌then◌else◌, ◌==◌}
 use Rattle.std.proofs.lemmas.Bool.{ne_eqb}
-use Rattle.std.proofs.lemmas.List.{length_push, length-drop, take_all, take-append-drop, take-append-le}
+use Rattle.std.proofs.lemmas.List.{drop-append-le, length_push, length-drop, take_all, take-append-drop, take-append-le}
 use Rattle.admission_log.specs.declared.settings.Settings.{Settings}
 use Rattle.admission_log.specs.declared.events.Event.{Event}
 use Rattle.admission_log.specs.declared.events.Event.TheVariants.{Tick}
 use Rattle.admission_log.specs.Histories.{History, appended, first, tick_in}
 use Rattle.admission_log.specs.Legality.{IsLegal}
 use Rattle.edition_form.specs.declared.edition.Edition.{Edition}
-use Rattle.edition_form.specs.declared.lines.ShownLine.{ShownLine}
-use Rattle.edition_form.specs.Certificates.{AreLogCertificates}
+use Rattle.price_form.specs.Certificates.{IsCert}
 use Rattle.edition_form.specs.Datagrams.{AreDatagramsOf, shown_at, shown_of}
 use Rattle.edition_form.specs.Editions.{IsEdition}
-use Rattle.edition_form.specs.Prices.{ArePricesOf, edition_octets}
+use Rattle.edition_form.specs.Prices.{ArePricesOf}
 use Rattle.std.specs.List.{concat}
+use Rattle.std.specs.Option.{option_to_list}
 use Rattle.tracker_engine.specs.Engines.{Continues, EngineState, StandsFor}
 use Rattle.tracker_engine.specs.Engines as engines
 use Rattle.tracker_session.specs.declared.editions.Editions.{Editions}
-use Rattle.tracker_session.specs.Editions.{AreGiven, HasNext}
+use Rattle.tracker_session.specs.Editions.{AreGiven, HasNext, IsNewest}
 use Rattle.recording.specs.Items.{Item, datagram, tick, bias}
 use Rattle.tracker_session.specs.Taking.{shows}
 use Rattle.tracker_session.proofs.Logs.{delivery_kinds}
@@ -31,15 +31,16 @@ use Rattle.tracker_session.proofs.Outputs.{cuts_still, cuts_tick, last_tick, las
 pub first_all : (log : History) → first (length log.events) log ≡ log
 first_all log = (λ i. record { start = log.start; events = take_all (length log.events) log.events (omega arith) i })
 
--- the rest from a cut on, as a slice
-pub new_events : (events es : List Event) (cut : ℕ) → events ≡ es → take (length events - cut) (drop cut events) ≡ drop cut es
-new_events events es cut e = take_all (length events - cut) (drop cut events) (omega (arith, length-drop cut events)) ∙ ap (drop cut) e
+-- the events since a cut, with what is added to the log
+pub newest_more : (log : History) (added : Option Event) (cut : ℕ) (recent longer : List Event) → cut ≤ length log.events → recent ≡ drop cut log.events → longer ≡ recent ++ option_to_list added → longer ≡ drop cut (log_with log added).events
+newest_more log None cut recent longer within is more = more ∙ append-nil recent ∙ is
+newest_more log (Some event) cut recent longer within is more = more ∙ ap (λ es. es ++ event ∷ []) is ∙ sym (drop-append-le cut log.events (event ∷ []) within)
 
 -- up to a cut a log with one more event is the same
 first_kept : (log : History) (event : Event) (cut : ℕ) → cut ≤ length log.events → first cut log ≡ first cut (appended log event)
 first_kept log event cut within = (λ i. record { start = log.start; events = sym (take-append-le cut log.events (event ∷ []) within) i })
 
-module _ (settings : Settings) (log : History) (editions : Editions) (h : HasNext settings log editions) where
+module _ (settings : Settings) (log : History) (recent : List Event) (editions : Editions) (h : HasNext settings log recent editions) where
   -- the log is the earlier one with the tick
   pub number_of_events : length log.events ≡ length h.earlier.events + 1
   number_of_events = omega (arith, ap (λ (l : History). length l.events) h.parts, length_push h.earlier.events (Tick h.time))
@@ -58,15 +59,19 @@ module _ (settings : Settings) (log : History) (editions : Editions) (h : HasNex
   pub legal_rest : IsLegal settings (engines.with_events (first editions.cut log) (drop editions.cut log.events))
   legal_rest = subst (λ (l : History). IsLegal settings l) (sym rest_are) h.legal
 
-  pub continues : Continues editions.engine (drop editions.cut log.events)
-  continues = record { settings = settings; log = first editions.cut log; settled = editions.cut; before = editions.cut; stands = stands_first; legal = legal_rest }
+  legal_recent : IsLegal settings (engines.with_events (first editions.cut log) recent)
+  legal_recent = subst (λ (es : List Event). IsLegal settings (engines.with_events (first editions.cut log) es)) (sym h.newest_are) legal_rest
+
+  pub continues : Continues editions.engine recent
+  continues = record { settings = settings; log = first editions.cut log; settled = editions.cut; before = editions.cut; stands = stands_first; legal = legal_recent }
 
   -- the engine that took them in stands for all of the log
-  pub absorbed : (events : List Event) → events ≡ log.events → (new : EngineState) → ((s : Settings) (l : History) (settled before : ℕ) → StandsFor s l settled before editions.engine → IsLegal s (engines.with_events l (take (length events - editions.cut) (drop editions.cut events))) → StandsFor s (engines.with_events l (take (length events - editions.cut) (drop editions.cut events))) settled before new) → StandsFor settings log editions.cut editions.cut new
-  absorbed events e new stands =
-      let rest = new_events events log.events editions.cut e in
-      let legal = subst (λ (es : List Event). IsLegal settings (engines.with_events (first editions.cut log) es)) (sym rest) legal_rest in
-      subst (λ (l : History). StandsFor settings l editions.cut editions.cut new) (ap (engines.with_events (first editions.cut log)) rest ∙ rest_are) (stands settings (first editions.cut log) editions.cut editions.cut stands_first legal)
+  pub absorbed : (new : EngineState) → ((s : Settings) (l : History) (settled before : ℕ) → StandsFor s l settled before editions.engine → IsLegal s (engines.with_events l recent) → StandsFor s (engines.with_events l recent) settled before new) → StandsFor settings log editions.cut editions.cut new
+  absorbed new stands = subst (λ (l : History). StandsFor settings l editions.cut editions.cut new) (ap (engines.with_events (first editions.cut log)) h.newest_are ∙ rest_are) (stands settings (first editions.cut log) editions.cut editions.cut stands_first legal_recent)
+
+  -- the cut is the log's end
+  pub whole_cut : editions.cut + length recent ≡ length log.events
+  whole_cut = omega (arith, ap length h.newest_are, length-drop editions.cut log.events, cut_within, number_of_events)
 
   -- ---- the edition
 
@@ -83,21 +88,23 @@ module _ (settings : Settings) (log : History) (editions : Editions) (h : HasNex
   pub cut_is : last_cut log ≡ length log.events
   cut_is = ap last_cut h.parts ∙ last_tick h.earlier h.time ∙ ap (λ (l : History). length l.events) (sym h.parts)
 
-  pub output_is : (number : ℕ) (edition : Edition) (octets : List ℕ) → number ≡ editions.number + 1 → IsEdition settings log editions.cut number edition → octets ≡ concat edition.datagrams → IsEditionAt settings log (newest log) octets
-  output_is number edition octets n is whole = record {
-    datagrams = edition.datagrams;
-    are = subst (λ (l : History). AreDatagramsOf settings l (cut_before log (length log.events)) (length (cuts_of log)) edition.datagrams) (sym (first_all log))
-        (subst (λ (before : ℕ). AreDatagramsOf settings log before (length (cuts_of log)) edition.datagrams) (sym before_is)
-        (subst (λ (m : ℕ). AreDatagramsOf settings log editions.cut m edition.datagrams) (n ∙ sym number_is) is.datagrams));
+  pub newest_is : (number : ℕ) (edition : Edition) → number ≡ editions.number + 1 → IsEdition settings log editions.cut number edition → All IsCert edition.certs → IsNewest settings log edition
+  newest_is number edition n is whole = record {
+    is = subst (λ (before : ℕ). IsEdition settings log before (length (cuts_of log)) edition) (sym before_is) (subst (λ (m : ℕ). IsEdition settings log editions.cut m edition) (n ∙ sym number_is) is);
     whole = whole;
   }
 
-  pub prices_are : (number : ℕ) (edition : Edition) (octets : List ℕ) → number ≡ editions.number + 1 → IsEdition settings log editions.cut number edition → octets ≡ edition_octets edition.number edition.cut edition.certs → ArePricesOf settings log (newest log) octets
-  prices_are number edition octets n is whole = record {
-    certs = edition.certs;
-    certificates = subst (λ (l : History). AreLogCertificates settings l edition.certs) (sym (first_all log)) is.certs;
-    octets_are = whole ∙ (λ i. edition_octets ((is.number_is ∙ n ∙ sym number_is) i) (is.cut i) edition.certs);
+  pub picture_output : (number : ℕ) (datagrams : List (List ℕ)) (octets : List ℕ) → number ≡ editions.number + 1 → AreDatagramsOf settings log editions.cut number datagrams → octets ≡ concat datagrams → IsEditionAt settings log (newest log) octets
+  picture_output number datagrams octets n are whole = record {
+    datagrams = datagrams;
+    are = subst (λ (l : History). AreDatagramsOf settings l (cut_before log (length log.events)) (length (cuts_of log)) datagrams) (sym (first_all log))
+        (subst (λ (before : ℕ). AreDatagramsOf settings log before (length (cuts_of log)) datagrams) (sym before_is)
+        (subst (λ (m : ℕ). AreDatagramsOf settings log editions.cut m datagrams) (n ∙ sym number_is) are));
+    whole = whole;
   }
+
+  pub picture_prices : (number : ℕ) (octets : List ℕ) → number ≡ editions.number + 1 → ArePricesOf settings log (number, length log.events) octets → ArePricesOf settings log (newest log) octets
+  picture_prices number octets n are = subst (λ (m : ℕ). ArePricesOf settings log (m, length log.events) octets) (n ∙ sym number_is) are
 
   -- ---- shown
 
@@ -108,12 +115,22 @@ module _ (settings : Settings) (log : History) (editions : Editions) (h : HasNex
   pub shown_here : shown_of settings log ≡ shown_at settings log (length log.events)
   shown_here = ap (shown_of settings) (sym (first_all log)) ∙ sym (if_else (length log.events == 0) [] (shown_of settings (first (length log.events) log)) (ne_eqb (length log.events) 0 (λ none. omega (arith, number_of_events, none))))
 
-  pub given_next : (new : Editions) → new.number ≡ editions.number + 1 → new.cut ≡ length log.events → StandsFor settings log (length log.events) (length log.events) new.engine → AreGiven settings log new
-  given_next new number cut stands = record {
+  pub given_next : (new : Editions) → new.number ≡ editions.number + 1 → new.cut ≡ length log.events → new.tracks ≡ length (shown_of settings log) → StandsFor settings log (length log.events) (length log.events) new.engine → AreGiven settings log new
+  given_next new number cut tracks stands = record {
     number_is = number ∙ sym number_is;
     cut_is = cut ∙ sym cut_is;
+    tracks_are = tracks ∙ ap length (shown_here ∙ ap (shown_at settings log) (sym cut_is));
     stands = subst (λ (n : ℕ). StandsFor settings (first n log) n n new.engine) (sym cut) (subst (λ (l : History). StandsFor settings l (length log.events) (length log.events) new.engine) (sym (first_all log)) stands);
   }
+
+-- ---- the octets of an edition
+
+pub newest_output : (settings : Settings) (log : History) (edition : Edition) (octets : List ℕ) → IsNewest settings log edition → octets ≡ concat edition.datagrams → IsEditionAt settings log (newest log) octets
+newest_output settings log edition octets h whole = record {
+  datagrams = edition.datagrams;
+  are = subst (λ (l : History). AreDatagramsOf settings l (cut_before log (length log.events)) (length (cuts_of log)) edition.datagrams) (sym (first_all log)) h.is.datagrams;
+  whole = whole;
+}
 
 -- a log without events is legal
 pub empty_legal : (settings : Settings) (start : ℕ) (editions : Editions) → AreGiven settings (empty_log start) editions → IsLegal settings (empty_log start)
@@ -121,13 +138,19 @@ empty_legal settings start editions given = subst (λ (n : ℕ). IsLegal setting
 
 -- ---- a log without ticks at its end
 
+-- up to a cut a log with one more event shows the same
+shown_kept : (settings : Settings) (log : History) (event : Event) (cut : ℕ) → cut ≤ length log.events → shown_at settings log cut ≡ shown_at settings (appended log event) cut
+shown_kept settings log event cut within = ap (λ (l : History). if cut == 0 then [] else shown_of settings l) (first_kept log event cut within)
+
 -- any other event leaves what was given as it is
 pub given_still : (settings : Settings) (log : History) (event : Event) (editions : Editions) → tick_in event ≡ None → AreGiven settings log editions → AreGiven settings (appended log event) editions
 given_still settings log event editions none h =
     let cuts = cuts_still log event none in
+    let last : last_cut log ≡ last_cut (appended log event) = ap (λ cs. fold (λ before cut. cut) 0 cs) (sym cuts) in
     record {
       number_is = h.number_is ∙ ap length (sym cuts);
-      cut_is = h.cut_is ∙ ap (λ cs. fold (λ before cut. cut) 0 cs) (sym cuts);
+      cut_is = h.cut_is ∙ last;
+      tracks_are = h.tracks_are ∙ ap length (shown_kept settings log event (last_cut log) (omega (arith, last_within log)) ∙ ap (shown_at settings (appended log event)) last);
       stands = subst (λ (l : History). StandsFor settings l editions.cut editions.cut editions.engine) (first_kept log event editions.cut (omega (arith, h.cut_is, last_within log))) h.stands;
     }
 
@@ -149,7 +172,7 @@ adds_tick settings log (datagram feed x) (Some event) h shown = absurd (let sile
 adds_tick settings log (tick time) (Some event) h shown = record { time = time; is = ap Some h.1 }
 adds_tick settings log (bias radar slot b) (Some event) h shown = absurd (let silent : shows (Some event) ≡ false = ap (λ e. shows (Some e)) h.1 in cc)
 
-pub next_after : (settings : Settings) (log longer : History) (item : Item) (added : Option Event) (editions : Editions) → Adds settings log item added → shows added ≡ true → longer ≡ log_with log added → IsLegal settings longer → AreGiven settings log editions → HasNext settings longer editions
-next_after settings log longer item added editions adds shown grown legal given =
+pub next_after : (settings : Settings) (log longer : History) (item : Item) (added : Option Event) (recent : List Event) (editions : Editions) → Adds settings log item added → shows added ≡ true → longer ≡ log_with log added → IsLegal settings longer → AreGiven settings log editions → recent ≡ drop editions.cut longer.events → HasNext settings longer recent editions
+next_after settings log longer item added recent editions adds shown grown legal given newest_are =
     let t = adds_tick settings log item added adds shown in
-    record { earlier = log; time = t.time; parts = grown ∙ ap (log_with log) t.is; legal = legal; given = given }
+    record { earlier = log; time = t.time; parts = grown ∙ ap (log_with log) t.is; legal = legal; given = given; newest_are = newest_are }

@@ -12,11 +12,13 @@ use Rattle.session_script.specs.declared.status.Status.TheVariants.{Settings}
 use Rattle.tracker_session.specs.Check.{CheckGives, verdict_end}
 use Rattle.tracker_session.specs.Checking.{Checks}
 use Rattle.tracker_session.specs.Commands.{CommandGives, IsRefusal}
+use Rattle.tracker_session.specs.Exercise.{ExerciseGives, exercise_lines}
 use Rattle.tracker_session.specs.Replay.{Replays}
 use Rattle.tracker_session.specs.ReplayGives.{HasSettings, IsRefused, IsReplayed, ReplayGives}
 use Rattle.tracker_session.specs.ReplayScript.{end_at}
-use Rattle.tracker_session.specs.Words.{Line, replay, check, scene, other}
+use Rattle.tracker_session.specs.Words.{Line, replay, check, scene, exercise, other}
 use Rattle.tracker_session.specs.Scene.{RecordingGives}
+use Rattle.tracker_session.proofs.Exercising.{lines_same}
 use Rattle.tracker_session.proofs.Replayed.{one_replay}
 use Rattle.tracker_session.proofs.Verdicts.{one_verdict}
 
@@ -100,6 +102,19 @@ module _ (held : Place → List ℕ) (bound bound' : List Binding) (gets gets' :
   writes_once octets output (inl h) (inr k) = absurd (never_none end' k.broken)
   writes_once octets output (inr h) k = absurd (never_none end h.broken)
 
+  exercises_once : (seed aircraft seconds late : ℕ) → ExerciseGives seed aircraft seconds late bound gets (Some end) → ExerciseGives seed aircraft seconds late bound' gets' (Some end') → Same end end' bound bound' gets gets'
+  exercises_once seed aircraft seconds late h k = (
+    elim h.end_is [
+      | inr e ↦ absurd (never_none end e)
+      | inl e ↦ elim k.end_is [
+        | inr f ↦ absurd (never_none end' f)
+        | inl f ↦ same_end end (Ok (exercise_lines e.0.counts e.0.totals)) e.1 ∙ ap Ok (lines_same seed aircraft seconds late e.0 f.0) ∙ sym (same_end end' (Ok (exercise_lines f.0.counts f.0.totals)) f.1)
+      ]
+    ],
+    h.unbound ∙ sym k.unbound,
+    h.nothing places.Output ∙ sym (k.nothing places.Output),
+  )
+
   refused_once : IsRefusal bound gets (Some end) → IsRefusal bound' gets' (Some end') → Same end end' bound bound' gets gets'
   refused_once h k = (
     elim h.end_is [
@@ -117,4 +132,5 @@ pub one_end : (line : Line) (held : Place → List ℕ) (bound bound' : List Bin
 one_end (replay settings input output prices workers) held bound bound' gets gets' end end' h k = replays_once held bound bound' gets gets' end end' settings input output prices h k
 one_end (check prices) held bound bound' gets gets' end end' h k = checks_once held bound bound' gets gets' end end' prices h k
 one_end (scene seed aircraft seconds late output) held bound bound' gets gets' end end' h k = writes_once held bound bound' gets gets' end end' _ output h k
+one_end (exercise seed aircraft seconds late workers) held bound bound' gets gets' end end' h k = exercises_once held bound bound' gets gets' end end' seed aircraft seconds late h k
 one_end other held bound bound' gets gets' end end' h k = refused_once held bound bound' gets gets' end end' h k

@@ -13,17 +13,17 @@ use Rattle.admission_log.specs.Histories.{History, appended, first, tick_in}
 use Rattle.edition_form.specs.Certificates.{AreLogCertificates}
 use Rattle.edition_form.specs.Datagrams.{AreDatagramsOf}
 use Rattle.edition_form.specs.Prices.{ArePricesOf}
-use Rattle.tracker_session.specs.Replay.{AreOfAll, IsEditionAt, IsOutput, cut_before, cut_in, cuts_of, editions_of, last_cut, newest}
+use Rattle.tracker_session.specs.Replay.{AreCertificatesAt, AreOfAll, IsEditionAt, IsOutput, cut_before, cut_in, cuts_of, editions_of, end_to_end, last_cut, newest}
 use Rattle.tracker_session.proofs.Datagrams.{one_list_of_datagrams}
 use Rattle.tracker_session.proofs.Logs.{LogGoesOn, with_events}
 
 -- After what is of all editions of a log the piece makes that of a longer one.
-abbrev pub Grows : (History → ℕ × ℕ → List ℕ → Type 0) → History → History → List ℕ → Type 0
-Grows AreOf log longer piece = (octets : List ℕ) → AreOfAll AreOf log octets → AreOfAll AreOf longer (octets ++ piece)
+abbrev pub Grows : {A : Type 0} → (History → ℕ × ℕ → List A → Type 0) → History → History → List A → Type 0
+Grows {A} AreOf log longer piece = (all : List A) → AreOfAll AreOf log all → AreOfAll AreOf longer (all ++ piece)
 
 -- what is of an edition of a log still is of a longer one
-abbrev pub IsKept : (History → ℕ × ℕ → List ℕ → Type 0) → Type 0
-IsKept AreOf = (log : History) (more : List Event) (edition : ℕ × ℕ) (octets : List ℕ) → edition.1 < 1 + length log.events → AreOf log edition octets → AreOf (with_events log more) edition octets
+abbrev pub IsKept : {A : Type 0} → (History → ℕ × ℕ → List A → Type 0) → Type 0
+IsKept {A} AreOf = (log : History) (more : List Event) (edition : ℕ × ℕ) (piece : List A) → edition.1 < 1 + length log.events → AreOf log edition piece → AreOf (with_events log more) edition piece
 
 -- ---- pieces, one for each thing
 
@@ -61,9 +61,9 @@ zip_same R one (x ∷ xs) [] zs h k = absurd h
 zip_same R one (x ∷ xs) (y ∷ ys) [] h k = absurd k
 zip_same R one (x ∷ xs) (y ∷ ys) (z ∷ zs) h k = (λ i. one x y z h.0 k.0 i ∷ zip_same R one xs ys zs h.1 k.1 i)
 
-concat_append : (xs ys : List (List ℕ)) → concat (xs ++ ys) ≡ concat xs ++ concat ys
-concat_append [] ys = refl
-concat_append (x ∷ xs) ys = ap (λ t. x ++ t) (concat_append xs ys) ∙ sym (append_assoc x (concat xs) (concat ys))
+ends_append : {A : Type 0} (xs ys : List (List A)) → end_to_end (xs ++ ys) ≡ end_to_end xs ++ end_to_end ys
+ends_append [] ys = refl
+ends_append (x ∷ xs) ys = ap (λ t. x ++ t) (ends_append xs ys) ∙ sym (append_assoc x (end_to_end xs) (end_to_end ys))
 
 -- ---- the editions of a longer log
 
@@ -118,6 +118,9 @@ prices_kept settings log more edition octets within h = record {
   octets_are = h.octets_are;
 }
 
+pub certificates_kept : (settings : Settings) → IsKept (AreCertificatesAt settings)
+certificates_kept settings log more edition certs within h = subst (λ (l : History). AreLogCertificates settings l certs) (sym (first_same log more edition.1 within)) h
+
 -- ---- cuts of a log with one more event
 
 pub cuts_tick : (log : History) (time : ℕ) → cuts_of (appended log (Tick time)) ≡ cuts_of log ++ (1 + length log.events) ∷ []
@@ -149,39 +152,39 @@ newest_is log time =
 
 -- ---- what is of all editions of a longer log
 
-module _ (AreOf : History → ℕ × ℕ → List ℕ → Type 0) (kept : IsKept AreOf) where
-  editions_kept : (log : History) (more : List Event) (pieces : List (List ℕ)) → AllZip (AreOf log) (editions_of log) pieces → AllZip (AreOf (with_events log more)) (editions_of log) pieces
+module _ {A : Type 0} (AreOf : History → ℕ × ℕ → List A → Type 0) (kept : IsKept AreOf) where
+  editions_kept : (log : History) (more : List Event) (pieces : List (List A)) → AllZip (AreOf log) (editions_of log) pieces → AllZip (AreOf (with_events log more)) (editions_of log) pieces
   editions_kept log more pieces h =
       zip_since (λ (edition : ℕ × ℕ). edition.1 < 1 + length log.events) (AreOf log) (AreOf (with_events log more)) (kept log more)
       (editions_of log) pieces (numbered_within (1 + length log.events) 1 (cuts_of log) (cuts_within 1 log.events)) h
 
   -- a tick gives one more edition, the newest of the log with it
-  pub more_at_tick : (log : History) (time : ℕ) (piece octets : List ℕ) → AreOf (appended log (Tick time)) (newest (appended log (Tick time))) piece → AreOfAll AreOf log octets → AreOfAll AreOf (appended log (Tick time)) (octets ++ piece)
-  more_at_tick log time piece octets newly h =
+  pub more_at_tick : (log : History) (time : ℕ) (piece all : List A) → AreOf (appended log (Tick time)) (newest (appended log (Tick time))) piece → AreOfAll AreOf log all → AreOfAll AreOf (appended log (Tick time)) (all ++ piece)
+  more_at_tick log time piece all newly h =
       let longer = appended log (Tick time) in
       let last : AreOf longer (1 + length (cuts_of log), 1 + length log.events) piece = subst (λ (edition : ℕ × ℕ). AreOf longer edition piece) (newest_is log time) newly in
       let grown = zip_push (AreOf longer) (editions_of log) h.pieces (1 + length (cuts_of log), 1 + length log.events) piece (editions_kept log (Tick time ∷ []) h.pieces h.editions) last in
       record {
         pieces = h.pieces ++ piece ∷ [];
         editions = subst (λ (es : List (ℕ × ℕ)). AllZip (AreOf longer) es (h.pieces ++ piece ∷ [])) (sym (editions_more log (Tick time ∷ []))) grown;
-        whole = ap (λ t. t ++ piece) h.whole ∙ ap (λ t. concat h.pieces ++ t) (sym (append-nil piece)) ∙ sym (concat_append h.pieces (piece ∷ []));
+        whole = ap (λ t. t ++ piece) h.whole ∙ ap (λ t. end_to_end h.pieces ++ t) (sym (append-nil piece)) ∙ sym (ends_append h.pieces (piece ∷ []));
       }
 
   -- any other event gives none
-  pub none_more : (log : History) (event : Event) (octets : List ℕ) → tick_in event ≡ None → AreOfAll AreOf log octets → AreOfAll AreOf (appended log event) octets
-  none_more log event octets none h = record {
+  pub none_more : (log : History) (event : Event) (all : List A) → tick_in event ≡ None → AreOfAll AreOf log all → AreOfAll AreOf (appended log event) all
+  none_more log event all none h = record {
     pieces = h.pieces;
     editions = subst (λ (cuts : List ℕ). AllZip (AreOf (appended log event)) (enumerate_from 1 cuts) h.pieces) (sym (cuts_still log event none)) (editions_kept log (event ∷ []) h.pieces h.editions);
     whole = h.whole;
   }
 
   -- what gives nothing
-  pub nothing_given : (log longer : History) → ((octets : List ℕ) → AreOfAll AreOf log octets → AreOfAll AreOf longer octets) → Grows AreOf log longer []
-  nothing_given log longer same octets h = subst (λ (o : List ℕ). AreOfAll AreOf longer o) (sym (append-nil octets)) (same octets h)
+  pub nothing_given : (log longer : History) → ((all : List A) → AreOfAll AreOf log all → AreOfAll AreOf longer all) → Grows AreOf log longer []
+  nothing_given log longer same all h = subst (λ (o : List A). AreOfAll AreOf longer o) (sym (append-nil all)) (same all h)
 
   -- one piece after the other
-  pub grows_on : (log mid longer : History) (a b : List ℕ) → Grows AreOf log mid a → Grows AreOf mid longer b → Grows AreOf log longer (a ++ b)
-  grows_on log mid longer a b h k octets is = subst (λ (o : List ℕ). AreOfAll AreOf longer o) (append_assoc octets a b) (k (octets ++ a) (h octets is))
+  pub grows_on : (log mid longer : History) (a b : List A) → Grows AreOf log mid a → Grows AreOf mid longer b → Grows AreOf log longer (a ++ b)
+  grows_on log mid longer a b h k all is = subst (λ (o : List A). AreOfAll AreOf longer o) (append_assoc all a b) (k (all ++ a) (h all is))
 
 -- ---- there is one output
 
@@ -190,7 +193,7 @@ one_edition settings log edition a b h k = h.whole ∙ ap concat (one_list_of_da
 
 pub outputs_same : (settings : Settings) (log : History) (a b : List ℕ) → IsOutput settings log a → IsOutput settings log b → a ≡ b
 outputs_same settings log a b h k =
-    h.whole ∙ ap concat (zip_same (IsEditionAt settings log) (one_edition settings log) (editions_of log) h.pieces k.pieces h.editions k.editions) ∙ sym k.whole
+    h.whole ∙ ap end_to_end (zip_same (IsEditionAt settings log) (one_edition settings log) (editions_of log) h.pieces k.pieces h.editions k.editions) ∙ sym k.whole
 
 -- the output of a log is a prefix of that of a longer one
 pub output_prefix : (settings : Settings) (log longer : History) (out whole : List ℕ) → LogGoesOn log longer → IsOutput settings log out → IsOutput settings longer whole → GoesOn out whole
@@ -200,6 +203,6 @@ output_prefix settings log longer out whole on h k =
     let editions = subst (λ (es : List (ℕ × ℕ)). AllZip (IsEditionAt settings after) es same.pieces) (editions_more log on.more) same.editions in
     let pieces = zip_prefix (IsEditionAt settings after) (one_edition settings after) (editions_of log) (editions_after log on.more) h.pieces same.pieces (editions_kept (IsEditionAt settings) (output_kept settings) log on.more h.pieces h.editions) editions in
     record {
-      rest = concat pieces.rest;
-      parts = same.whole ∙ ap concat pieces.parts ∙ concat_append h.pieces pieces.rest ∙ ap (λ t. t ++ concat pieces.rest) (sym h.whole);
+      rest = end_to_end pieces.rest;
+      parts = same.whole ∙ ap end_to_end pieces.parts ∙ ends_append h.pieces pieces.rest ∙ ap (λ t. t ++ end_to_end pieces.rest) (sym h.whole);
     }

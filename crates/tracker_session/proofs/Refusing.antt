@@ -12,9 +12,10 @@ use Rattle.tracker_session.specs.declared.counts.Counts.{Counts}
 use Rattle.tracker_session.specs.Check.{CheckGives, verdict_end}
 use Rattle.tracker_session.specs.Checking.{Verdict, proved, fails, fault}
 use Rattle.tracker_session.specs.Commands.{CommandGives}
+use Rattle.tracker_session.specs.Exercise.{ExerciseGives}
 use Rattle.tracker_session.specs.ReplayGives.{ReplayGives}
 use Rattle.tracker_session.specs.ReplayScript.{end_at}
-use Rattle.tracker_session.specs.Words.{Line, replay, check, scene, other}
+use Rattle.tracker_session.specs.Words.{Line, replay, check, scene, exercise, other}
 use Rattle.tracker_session.specs.Scene.{RecordingGives}
 
 -- ---- Usage
@@ -57,6 +58,9 @@ recording_usage : (octets output : List ℕ) (bound : List Binding) (gets : Plac
 recording_usage octets output bound gets stop (inl h) e = done_usage _ (same_end _ _ (sym h.end_is ∙ e))
 recording_usage octets output bound gets stop (inr h) e = none_usage (sym h.broken ∙ e)
 
+exercise_usage : (seed aircraft seconds late : ℕ) (bound : List Binding) (gets : Place → List ℕ) (stop : Option End) → ExerciseGives seed aircraft seconds late bound gets stop → NoUsage stop
+exercise_usage seed aircraft seconds late bound gets stop h e = elim h.end_is [ inl k ↦ done_usage _ (same_end _ _ (sym k.1 ∙ e)) | inr k ↦ none_usage (sym k ∙ e) ]
+
 -- the end was Usage, where the status is
 usage_end : (stop : Option End) (bound : List Binding) (status : Status) (old new : HostState) → EndsSo stop bound status old new → status ≡ statuses.Usage → stop ≡ Some (Err statuses.Usage)
 usage_end (Some (Ok text)) bound status old new so e = absurd (elim so.1 [ inl h ↦ (let d = sym h.0 ∙ e in cc) | inr h ↦ (let d = sym h.0 ∙ e in cc) ])
@@ -71,4 +75,5 @@ pub only_other : (line : Line) (holds : Place → List ℕ → Type 0) (status :
 only_other (replay settings input output prices workers) holds status old new c e = absurd (replay_usage settings input output prices holds c.bound c.gets c.stop c.given (usage_end c.stop c.bound status old new c.so e))
 only_other (check prices) holds status old new c e = absurd (check_usage prices holds c.bound c.gets c.stop c.given (usage_end c.stop c.bound status old new c.so e))
 only_other (scene seed aircraft seconds late output) holds status old new c e = absurd (recording_usage _ output c.bound c.gets c.stop c.given (usage_end c.stop c.bound status old new c.so e))
+only_other (exercise seed aircraft seconds late workers) holds status old new c e = absurd (exercise_usage seed aircraft seconds late c.bound c.gets c.stop c.given (usage_end c.stop c.bound status old new c.so e))
 only_other other holds status old new c e = refl

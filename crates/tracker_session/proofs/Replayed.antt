@@ -35,7 +35,7 @@ output_of_prefix settings octets output counts f fault header start items number
     output_prefix settings log h.log out output (log_goes_on settings log (drop number items) h.log rest) o h.output_is
 
 -- what a replay that broke off wrote is a prefix of the output
-pub front_of : (settings : Settings) (octets part prices output : List ℕ) (counts : Counts) (fault : Option ℕ) → ReplaysPartly settings octets part prices → Replays settings octets output counts fault → (n : ℕ) × (n ≤ length output) × (part ≡ take n output)
-front_of settings octets part prices output counts fault p h =
+pub prefix_of : (settings : Settings) (octets part prices output : List ℕ) (counts : Counts) (fault : Option ℕ) → ReplaysPartly settings octets part prices → Replays settings octets output counts fault → (n : ℕ) × (n ≤ length output) × (part ≡ take n output)
+prefix_of settings octets part prices output counts fault p h =
     let on = output_of_prefix settings octets output counts fault p.fault p.header p.start p.items p.number p.log p.whole h p.reading p.log_is p.whole_is in
     (p.n, omega (arith, p.within, ap length on.parts, length-append p.whole on.rest), p.part ∙ sym (ap (take p.n) on.parts ∙ take-append-le p.n p.whole on.rest p.within))

@@ -1,5 +1,5 @@
 -- Each list of octets has a replay under all settings.
-use Rattle.std.proofs.Common.{◌≡◌, ap, sym, refl, subst, inl, inr, ℕ, ◌+◌, ◌<◌, List, [], ◌∷◌, ◌++◌, length, take, drop, get_or, arith, append_assoc, append-nil, All, true, false}
+use Rattle.std.proofs.Common.{◌≡◌, ap, sym, refl, subst, inl, inr, ℕ, ◌+◌, ◌<◌, List, [], ◌∷◌, ◌++◌, length, take, drop, get_or, arith, append_assoc, All, true, false}
 use Rattle.std.specs.Prelude.{Bool, Option, Some, None}
 use Rattle.std.specs.List.{flat_map, concat, AllByRecursion, AllZip}
 use Rattle.std.proofs.lemmas.Bool.{cases_lt}
@@ -23,7 +23,7 @@ use Rattle.admission_log.proofs.Judgements.{delivery, is_delivery}
 use Rattle.tracker_session.specs.Counting.{counts_of}
 use Rattle.io_traits.specs.Places.{place_limit}
 use Rattle.tracker_session.specs.Inputs.{IsInput, tells_biases}
-use Rattle.tracker_session.specs.Replay.{Adds, IsLogAfter, IsEditionAt, IsOutput, HasReplay, cut_before, log_with, empty_log, editions_of}
+use Rattle.tracker_session.specs.Replay.{Adds, IsLogAfter, IsEditionAt, IsOutput, HasReplay, cut_before, log_with, empty_log, editions_of, end_to_end}
 use Rattle.tracker_session.proofs.Datagrams.{some_datagrams}
 use Rattle.tracker_session.proofs.Inputs.{some_read}
 
@@ -47,7 +47,7 @@ record SomeOutput (settings : Settings) (log : History) : Type 0 where
 some_output : (settings : Settings) (log : History) → SomeOutput settings log
 some_output settings log =
     let all = some_pieces settings log (editions_of log) in
-    record { octets = concat all.pieces; is = record { pieces = all.pieces; editions = all.are; whole = refl } }
+    record { octets = end_to_end all.pieces; is = record { pieces = all.pieces; editions = all.are; whole = refl } }
 
 -- ---- the octets of datagrams are below 256
 

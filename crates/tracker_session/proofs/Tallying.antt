@@ -16,14 +16,13 @@ use Rattle.plot_geometry.specs.declared.biases.Bias.{Bias}
 use Rattle.admission_log.specs.declared.events.Outcome.{Outcome}
 use Rattle.admission_log.specs.Histories.{History, appended, last_of}
 use Rattle.admission_log.specs.Deliveries.{IsDeliveryTo, outcomes_in}
-use Rattle.tracker_session.specs.declared.taking.Run.{Run}
 use Rattle.tracker_session.specs.declared.counts.Counts.{Counts}
 use Rattle.tracker_session.specs.Counting.{is_datagram, is_tick, is_bias, is_delivery, is_tick_taken, is_change, is_admitted, is_unknown, is_early, is_ahead, is_not_plot, others_in, told_of, counted, counts_of, missed, raised, with_told}
 use Rattle.tracker_session.specs.Replay.{HasFault, IsReplayLog}
-use Rattle.tracker_session.specs.Taking.{HasTaken, Takes}
+use Rattle.tracker_session.specs.Taking.{HasTaken, Progress}
 use Rattle.tracker_session.proofs.Logs.{DeliveryKinds, Kinds, bit, covered, delivery_kinds}
 
-counted_more : (a b : ℕ) → counted (counted a + b) ≡ counted (a + b)
+pub counted_more : (a b : ℕ) → counted (counted a + b) ≡ counted (a + b)
 counted_more a b = omega arith
 
 raised_is : (n a : ℕ) → raised (counted n) a ≡ counted (n + a)
@@ -113,13 +112,9 @@ module _ (p : Item → Bool) (q : Event → Bool) (items : List Item) (item : It
 
 -- ---- what is passed over
 
-pub malformed_taken : (settings : Settings) (feed : ℕ) (octets : List ℕ) (old new : Run) → HasFault octets → new.log ≡ old.log → new.counts ≡ record old.counts { malformed = counted (old.counts.malformed + 1) } → Takes settings (datagram feed octets) false old new
+pub malformed_taken : (settings : Settings) (feed : ℕ) (octets : List ℕ) (old new : Progress) → HasFault octets → new.log ≡ old.log → new.counts ≡ record old.counts { malformed = counted (old.counts.malformed + 1) } → HasTaken settings (datagram feed octets) None old new
 malformed_taken settings feed octets old new fault log counts =
-    record {
-      added = None;
-      has = record { adds = fault; log = log; counts = grown };
-      shown_is = refl;
-    }
+    record { adds = fault; log = log; counts = grown }
   where
     item : Item
     item = datagram feed octets
@@ -133,13 +128,9 @@ malformed_taken settings feed octets old new fault log counts =
         ∙ (λ i. record (counts_of tells items old.log) { malformed = one i; old = olds i; refused = refused i })
         ∙ ap (counts_of tells (items ++ item ∷ [])) (sym log)
 
-pub old_tick_taken : (settings : Settings) (time : ℕ) (old new : Run) → time ≤ last_of old.log → new.log ≡ old.log → new.counts ≡ record old.counts { old = counted (old.counts.old + 1) } → Takes settings (tick time) false old new
+pub old_tick_taken : (settings : Settings) (time : ℕ) (old new : Progress) → time ≤ last_of old.log → new.log ≡ old.log → new.counts ≡ record old.counts { old = counted (old.counts.old + 1) } → HasTaken settings (tick time) None old new
 old_tick_taken settings time old new late log counts =
-    record {
-      added = None;
-      has = record { adds = late; log = log; counts = grown };
-      shown_is = refl;
-    }
+    record { adds = late; log = log; counts = grown }
   where
     item : Item
     item = tick time
@@ -155,13 +146,9 @@ old_tick_taken settings time old new late log counts =
 
 -- ---- what is taken
 
-pub admitted_taken : (settings : Settings) (feed : ℕ) (octets : List ℕ) (contents : List Content) (event : Event) (old new : Run) → IsDatagram octets contents → IsDeliveryTo settings old.log feed contents event → new.log ≡ appended old.log event → new.counts ≡ record (with_told (outcomes_in event) old.counts) { other = counted (old.counts.other + others_in event) } → Takes settings (datagram feed octets) false old new
+pub admitted_taken : (settings : Settings) (feed : ℕ) (octets : List ℕ) (contents : List Content) (event : Event) (old new : Progress) → IsDatagram octets contents → IsDeliveryTo settings old.log feed contents event → new.log ≡ appended old.log event → new.counts ≡ record (with_told (outcomes_in event) old.counts) { other = counted (old.counts.other + others_in event) } → HasTaken settings (datagram feed octets) (Some event) old new
 admitted_taken settings feed octets contents event old new is delivery log counts =
-    record {
-      added = Some event;
-      has = record { adds = (contents, is, delivery); log = log; counts = grown };
-      shown_is = kinds.kinds.tick_taken;
-    }
+    record { adds = (contents, is, delivery); log = log; counts = grown }
   where
     item : Item
     item = datagram feed octets
@@ -194,7 +181,7 @@ admitted_taken settings feed octets contents event old new is delivery log count
         })
         ∙ ap (counts_of tells (items ++ item ∷ [])) (sym log)
 
-pub tick_taken : (settings : Settings) (time : ℕ) (old new : Run) → last_of old.log < time → new.log ≡ appended old.log (Tick time) → new.counts ≡ record old.counts { editions = counted (old.counts.editions + 1) } → HasTaken settings (tick time) (Some (Tick time)) old new
+pub tick_taken : (settings : Settings) (time : ℕ) (old new : Progress) → last_of old.log < time → new.log ≡ appended old.log (Tick time) → new.counts ≡ record old.counts { editions = counted (old.counts.editions + 1) } → HasTaken settings (tick time) (Some (Tick time)) old new
 tick_taken settings time old new later log counts =
     record { adds = (later, refl); log = log; counts = grown }
   where
@@ -230,13 +217,9 @@ tick_taken settings time old new later log counts =
 
 -- ---- changes of biases
 
-pub refused_taken : (settings : Settings) (radar slot : ℕ) (b : Bias) (old new : Run) → (IsOpenChange settings (last_of old.log) radar slot → ⊥) → new.log ≡ old.log → new.counts ≡ record old.counts { refused = counted (old.counts.refused + 1) } → Takes settings (bias radar slot b) false old new
+pub refused_taken : (settings : Settings) (radar slot : ℕ) (b : Bias) (old new : Progress) → (IsOpenChange settings (last_of old.log) radar slot → ⊥) → new.log ≡ old.log → new.counts ≡ record old.counts { refused = counted (old.counts.refused + 1) } → HasTaken settings (bias radar slot b) None old new
 refused_taken settings radar slot b old new closed log counts =
-    record {
-      added = None;
-      has = record { adds = closed; log = log; counts = grown };
-      shown_is = refl;
-    }
+    record { adds = closed; log = log; counts = grown }
   where
     item : Item
     item = bias radar slot b
@@ -250,13 +233,9 @@ refused_taken settings radar slot b old new closed log counts =
         ∙ (λ i. record (counts_of tells items old.log) { refused = one i; malformed = faults i; old = olds i })
         ∙ ap (counts_of tells (items ++ item ∷ [])) (sym log)
 
-pub change_taken : (settings : Settings) (radar slot : ℕ) (b : Bias) (old new : Run) → IsOpenChange settings (last_of old.log) radar slot → new.log ≡ appended old.log (Change radar slot b) → new.counts ≡ record old.counts { biases = counted (old.counts.biases + 1) } → Takes settings (bias radar slot b) false old new
+pub change_taken : (settings : Settings) (radar slot : ℕ) (b : Bias) (old new : Progress) → IsOpenChange settings (last_of old.log) radar slot → new.log ≡ appended old.log (Change radar slot b) → new.counts ≡ record old.counts { biases = counted (old.counts.biases + 1) } → HasTaken settings (bias radar slot b) (Some (Change radar slot b)) old new
 change_taken settings radar slot b old new is_open log counts =
-    record {
-      added = Some event;
-      has = record { adds = (is_open, refl); log = log; counts = grown };
-      shown_is = refl;
-    }
+    record { adds = (is_open, refl); log = log; counts = grown }
   where
     item : Item
     item = bias radar slot b

@@ -3,6 +3,7 @@ pub mod Checking
 pub mod Commands
 pub mod Counting
 pub mod Editions
+pub mod Exercise
 pub mod Faulty
 pub mod Inputs
 pub mod Judging
@@ -10,6 +11,8 @@ pub mod Replay
 pub mod ReplayGives
 pub mod ReplayScript
 pub mod Scene
+pub mod SceneSettings
 pub mod Screen
 pub mod Taking
+pub mod Totals
 pub mod Words

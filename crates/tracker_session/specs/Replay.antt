@@ -1,7 +1,8 @@
 -- What a replay gives for the settings and the octets of its input: the log of its items, the editions at the ticks of that log, and the counts.
 use Rattle.std.specs.Prelude.{◌≡◌, ◌<◌, ◌≤◌, ◌-◌, ℕ, List, [], ◌∷◌, ◌++◌, fold, length, Option, Some, None}
-use Rattle.std.specs.List.{AllZip, concat, enumerate_from, filter_map}
+use Rattle.std.specs.List.{AllZip, concat, enumerate_from, filter_map, flat_map}
 use Rattle.std.specs.Option.{option_map}
+use Rattle.price_form.specs.declared.certs.Cert.{Cert}
 use Rattle.price_form.specs.Files.{magic}
 use Rattle.asterix_frame.specs.Datagrams.{Content, IsDatagram, DatagramFault}
 use Rattle.recording.specs.declared.header.Header.{Header}
@@ -12,6 +13,7 @@ use Rattle.admission_log.specs.declared.events.Event.TheVariants.{Tick, Bias}
 use Rattle.admission_log.specs.Histories.{History, appended, first, last_of, tick_in}
 use Rattle.admission_log.specs.Changes.{IsOpenChange}
 use Rattle.admission_log.specs.Deliveries.{IsDeliveryTo}
+use Rattle.edition_form.specs.Certificates.{AreLogCertificates}
 use Rattle.edition_form.specs.Datagrams.{AreDatagramsOf}
 use Rattle.edition_form.specs.Prices.{ArePricesOf}
 use Rattle.tracker_session.specs.declared.counts.Counts.{Counts}
@@ -83,15 +85,27 @@ pub record IsEditionAt (settings : Settings) (log : History) (edition : ℕ × �
   pub are : AreDatagramsOf settings (first edition.1 log) (cut_before log edition.1) edition.0 datagrams
   pub whole : octets ≡ concat datagrams
 
--- The octets are those of all editions of a log, one after the other, where this says which those of each are.
-pub record AreOfAll (AreOf : History → ℕ × ℕ → List ℕ → Type 0) (log : History) (octets : List ℕ) : Type 0 where
-  pub pieces : List (List ℕ)
+-- pieces, one after the other
+abbrev pub end_to_end : {A : Type 0} → List (List A) → List A
+end_to_end pieces = flat_map (λ piece. piece) pieces
+
+-- It is what is of all editions of a log, one after the other, where this says what is of each: octets, or certificates.
+pub record AreOfAll {A : Type 0} (AreOf : History → ℕ × ℕ → List A → Type 0) (log : History) (all : List A) : Type 0 where
+  pub pieces : List (List A)
   pub editions : AllZip (AreOf log) (editions_of log) pieces
-  pub whole : octets ≡ concat pieces
+  pub whole : all ≡ end_to_end pieces
 
 -- the datagrams of all of them
 abbrev pub IsOutput : Settings → History → List ℕ → Type 0
 IsOutput settings log octets = AreOfAll (IsEditionAt settings) log octets
+
+-- the certificates are those of an edition: of the log's events up to the cut
+abbrev pub AreCertificatesAt : Settings → History → ℕ × ℕ → List Cert → Type 0
+AreCertificatesAt settings log edition certs = AreLogCertificates settings (first edition.1 log) certs
+
+-- those of all of them
+abbrev pub AreCertificates : Settings → History → List Cert → Type 0
+AreCertificates settings log certs = AreOfAll (AreCertificatesAt settings) log certs
 
 -- A price file of all of them: four octets, and of each edition its record and its certificates, whose prices are any that prove.
 pub record IsPrices (settings : Settings) (log : History) (octets : List ℕ) : Type 0 where

@@ -22,6 +22,8 @@ pub data Line : Type 0 where
   check : List ℕ → Line
   -- what the scene is drawn from, how many aircraft, for how many seconds, how many late of a hundred plots, and the name of the output
   scene : ℕ → ℕ → ℕ → ℕ → List ℕ → Line
+  -- the same without an output, and the number of workers
+  exercise : ℕ → ℕ → ℕ → ℕ → ℕ → Line
   other : Line
 
 -- a name isn't empty and doesn't begin with two dashes
@@ -38,18 +40,38 @@ abbrev pub number_in : ℕ → ℕ → List ℕ → Option ℕ
 number_in first last word =
     if bytes_eq word (decimal (digits_value 10 word)) && not (nat_lt (digits_value 10 word) first) && not (nat_lt last (digits_value 10 word)) then Some (digits_value 10 word) else None
 
--- four numbers, and the name of an output
-abbrev pub scene_with : Option ℕ → Option ℕ → Option ℕ → Option ℕ → List ℕ → Line
-scene_with (Some seed) (Some aircraft) (Some seconds) (Some late) output = scene seed aircraft seconds late output
-scene_with _ _ _ _ output = other
+-- four names, for one worker
+abbrev pub replay_with : List ℕ → List ℕ → List ℕ → List ℕ → Line
+replay_with settings input output prices = if is_name settings && is_name input && is_name output && is_name prices then replay settings input output prices 1 else other
 
--- `check` and a name; `replay` and four names, for one worker; or `scene` and four numbers, each in its range, and a name
+-- the seed, the aircraft, the seconds and the late plots of a scene
+abbrev pub SceneNumbers : Type 0
+SceneNumbers = ℕ × ℕ × ℕ × ℕ
+
+abbrev pub all_four : Option ℕ → Option ℕ → Option ℕ → Option ℕ → Option SceneNumbers
+all_four (Some seed) (Some aircraft) (Some seconds) (Some late) = Some (seed, aircraft, seconds, late)
+all_four _ _ _ _ = None
+
+-- those that four words write, where each lies in its range
+abbrev pub scene_numbers : List ℕ → List ℕ → List ℕ → List ℕ → Option SceneNumbers
+scene_numbers seed aircraft seconds late = all_four (number_in 0 (2 ^ 64 - 1) seed) (number_in 1 2000 aircraft) (number_in 1 3600 seconds) (number_in 0 100 late)
+
+-- with the name of an output
+abbrev pub scene_with : Option SceneNumbers → List ℕ → Line
+scene_with (Some (seed, aircraft, seconds, late)) output = scene seed aircraft seconds late output
+scene_with None output = other
+
+-- for one worker
+abbrev pub exercise_with : Option SceneNumbers → Line
+exercise_with (Some (seed, aircraft, seconds, late)) = exercise seed aircraft seconds late 1
+exercise_with None = other
+
+-- `check` and a name; `replay` and four names; `exercise` and four numbers; or `scene`, four numbers and a name
 abbrev pub line_of : List (List ℕ) → Line
 line_of (command ∷ prices ∷ []) = if bytes_eq command (codes "check") && is_name prices then check prices else other
-line_of (command ∷ settings ∷ input ∷ output ∷ prices ∷ []) =
-    if bytes_eq command (codes "replay") && is_name settings && is_name input && is_name output && is_name prices then replay settings input output prices 1 else other
-line_of (command ∷ seed ∷ aircraft ∷ seconds ∷ late ∷ output ∷ []) =
-    if bytes_eq command (codes "scene") && is_name output then scene_with (number_in 0 (2 ^ 64 - 1) seed) (number_in 1 2000 aircraft) (number_in 1 3600 seconds) (number_in 0 100 late) output else other
+line_of (command ∷ a ∷ b ∷ c ∷ d ∷ []) =
+    if bytes_eq command (codes "replay") then replay_with a b c d else if bytes_eq command (codes "exercise") then exercise_with (scene_numbers a b c d) else other
+line_of (command ∷ a ∷ b ∷ c ∷ d ∷ output ∷ []) = if bytes_eq command (codes "scene") && is_name output then scene_with (scene_numbers a b c d) output else other
 line_of words = other
 
 -- the line of a command
@@ -57,9 +79,13 @@ abbrev pub line_for : Command → Line
 line_for (commands.Replay settings input output prices workers) = replay (string_bytes settings) (string_bytes input) (string_bytes output) (string_bytes prices) workers
 line_for (commands.Check prices) = check (string_bytes prices)
 line_for (commands.Scene seed aircraft seconds late output) = scene seed aircraft seconds late (string_bytes output)
+line_for (commands.Exercise seed aircraft seconds late workers) = exercise seed aircraft seconds late workers
 
--- the command is that of the words; or they are none; or memory is wanting
+-- the command is that of the line; or the line is other words; or memory is wanting
+abbrev pub ParsedAs : Line → Result Command WordsError → Type 0
+ParsedAs line (Ok command) = line ≡ line_for command
+ParsedAs line (Err errors.Usage) = line ≡ other
+ParsedAs line (Err errors.NoMemory) = ⊤
+
 abbrev pub Parsed : List (List ℕ) → Result Command WordsError → Type 0
-Parsed words (Ok command) = line_of words ≡ line_for command
-Parsed words (Err errors.Usage) = line_of words ≡ other
-Parsed words (Err errors.NoMemory) = ⊤
+Parsed words result = ParsedAs (line_of words) result

@@ -46,6 +46,9 @@ fn run_words<R: Threads + Sync, H: Host>(
 ///
 /// `scene SEED AIRCRAFT SECONDS LATE OUTPUT` draws the recording of a scene, and writes it to Output.
 ///
+/// `exercise SEED AIRCRAFT SECONDS LATE` replays the recording of a scene under the settings of a scene, in
+/// memory, and keeps nothing but counts. It touches no place but Screen.
+///
 /// - `Usage` comes exactly for other words.
 /// - `Settings` comes in `replay` exactly where Settings was read, and tells its first fault.
 /// - `Read` comes where Settings, Input or Prices couldn't be opened or read, `Write` where Output or, in
@@ -56,7 +59,7 @@ fn run_words<R: Threads + Sync, H: Host>(
 /// - `NotProved` comes in `check` at the first certificate that doesn't prove.
 /// - `Done` comes else.
 ///
-/// Screen gets the command's line where all was done, and else the text of the status; a text that
+/// Screen gets the command's line where all was done (of `exercise` two), and else the text of the status; a text that
 /// can't be written leaves the status.
 pub fn run_batch<R: Threads + Sync, H: Host>(
     rt: &R,

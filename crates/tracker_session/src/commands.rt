@@ -6,6 +6,7 @@ ghost use Rattle.tracker_session.specs.Commands.{script_of};
 ghost use Rattle.tracker_session.specs.Words.{line_for};
 
 mod check;
+mod exercise;
 mod replay;
 mod scene;
 
@@ -41,5 +42,12 @@ pub fn run_command<R: Threads + Sync, H: Host>(
             late,
             output,
         } => scene::scene(alloc, seed, aircraft, seconds, late, output, host),
+        Command::Exercise {
+            seed,
+            aircraft,
+            seconds,
+            late,
+            workers: _workers,
+        } => Ok(exercise::exercise(alloc, seed, aircraft, seconds, late)?),
     }
 }

@@ -1,10 +1,10 @@
 // What became of the items of a replay, counted, and the line that tells it.
-ghost use Rattle.std.specs.Prelude.{◌≡◌, ◌+◌, ◌++◌, ◌∷◌, [], List, IfOk, string_bytes};
-ghost use Rattle.admission_log.specs.declared.events.Event.{Event};
+ghost use Rattle.std.specs.Prelude.{◌≡◌, ◌+◌, ◌++◌, ◌∷◌, [], IfOk, string_bytes};
+ghost use Rattle.admission_log.specs.Deliveries.{outcomes_in};
 ghost use Rattle.tracker_session.specs.Counting.{counted, no_counts, others_in, with_told};
 ghost use Rattle.tracker_session.specs.Screen.{biases_text, counts_line, plots_text, others_text};
 
-use admission_log::{Event, Log, Outcome};
+use admission_log::{Event, Outcome};
 use std::alloc::{AllocError, Global};
 
 /// What came of the items of a replay.
@@ -88,12 +88,22 @@ fn count_outcome(counts: &mut Counts, outcome: &Outcome)
     }
 }
 
-/// How many blocks the last event of a log passed over.
-pub fn others_in_last(log: &Log) -> u64
-    ensures { (before : List Event) (event : Event) → log.now.events ≡ before ++ event ∷ [] → result ≡ others_in event }
+/// What an event tells of each message of a datagram.
+pub fn outcomes_of(event: &Event) -> &[Outcome]
+    ensures { result.now ≡ outcomes_in event.now }
 {
-    match log.events().last() {
-        Some(Event::Deliver { other, .. }) => u64::from(*other),
+    match event {
+        Event::Deliver { outcomes, .. } => outcomes.as_slice(),
+        _ => &[],
+    }
+}
+
+/// How many blocks of a datagram an event passed over.
+pub fn others_of(event: &Event) -> u64
+    ensures { result ≡ others_in event.now }
+{
+    match event {
+        Event::Deliver { other, .. } => u64::from(*other),
         _ => 0,
     }
 }

@@ -1,15 +1,16 @@
 // The editions of a log, each as the octets that Output and Prices get of it.
-ghost use Rattle.std.specs.Prelude.{◌≡◌, ◌<◌, ◌≤◌, ◌^◌, [], All, IfOk, OnOk, length};
+ghost use Rattle.std.specs.Prelude.{◌≡◌, ◌+◌, ◌<◌, ◌≤◌, ◌^◌, ℕ, IfOk, OnOk, length};
 ghost use Rattle.std.specs.Arc.{arc_value};
 ghost use Rattle.std.specs.List.{concat};
-ghost use Rattle.edition_form.specs.Prices.{edition_octets};
-ghost use Rattle.price_form.specs.Certificates.{IsCert};
-ghost use Rattle.tracker_session.specs.Editions.{AreGiven, AreNewest, HasNext};
+ghost use Rattle.admission_log.specs.declared.settings.Settings.{Settings};
+ghost use Rattle.admission_log.specs.Histories.{History};
+ghost use Rattle.edition_form.specs.Datagrams.{shown_at};
+ghost use Rattle.tracker_engine.specs.Engines.{StandsFor};
+ghost use Rattle.tracker_session.specs.Editions.{AreGiven, AreNewest, HasNext, IsNewest};
 ghost use Rattle.tracker_session.specs.Replay.{empty_log};
 
-use admission_log::{Log, Settings};
-use edition_form::Edition;
-use price_form::{Cert, write_cert, write_edition};
+use admission_log::{Event, Settings};
+use edition_form::{Built, Edition, Pictured, ShownLine};
 use std::alloc::Global;
 use std::sync::Arc;
 use std::sync::ledger::Ledger;
@@ -26,7 +27,7 @@ pub struct EditionOctets {
 }
 
 /// What gives the editions of a log one after the other: the tracks at the last one, and how many
-/// events that one showed.
+/// events and tracks that one showed.
 #[derive(Drop)]
 pub struct Editions {
     pub engine: Engine,
@@ -34,6 +35,8 @@ pub struct Editions {
     pub number: u64,
     /// How many events the last one showed.
     pub cut: usize,
+    /// How many tracks the last one showed, without those that it told as ended.
+    pub tracks: usize,
 }
 
 impl Editions {
@@ -47,45 +50,84 @@ impl Editions {
             engine,
             number: 0,
             cut: 0,
+            tracks: 0,
         })
     }
 
-    /// The edition of the log at the tick that was just taken.
+    /// The octets of the edition of the log at the tick that was just taken, from the events since
+    /// the edition before. The certificates are written from where the window has them.
     ///
     /// Where memory is wanting, no more editions can be given.
     pub fn next<L: Ledger>(
         &mut self,
         alloc: Global,
-        log: &Log,
+        newest: &[Event],
         steps: &mut Steps<L>,
     ) -> Result<EditionOctets, NoMemory>
-        requires { HasNext self.old.engine.settings log.now self.old }
-        ensures newest { IfOk result (AreNewest self.old.engine.settings log.now) }
-        ensures given { OnOk result (AreGiven self.old.engine.settings log.now self.new) }
+        requires { (log : History) × HasNext self.old.engine.settings log newest.now self.old }
+        ensures newest { (log : History) → HasNext self.old.engine.settings log newest.now self.old → IfOk result (AreNewest self.old.engine.settings log) }
+        ensures given { (log : History) → HasNext self.old.engine.settings log newest.now self.old → OnOk result (AreGiven self.old.engine.settings log self.new) }
     {
-        let events = log.events();
-        self.engine.absorb(&events[self.cut..])?;
+        let (number, cut) = self.reach(newest, steps)?;
+        let Pictured { datagrams, shown } = self.engine.pictured(number)?;
+        let output = joined(alloc, datagrams.as_slice())?;
+        let prices = self.engine.prices(number)?;
+        self.show(number, cut, shown.into_vec());
+        Ok(EditionOctets { output, prices })
+    }
+
+    /// The edition of the log at the tick that was just taken, from the events since the edition
+    /// before.
+    ///
+    /// Where memory is wanting, no more editions can be given.
+    pub fn advance<L: Ledger>(
+        &mut self,
+        newest: &[Event],
+        steps: &mut Steps<L>,
+    ) -> Result<Edition, NoMemory>
+        requires { (log : History) × HasNext self.old.engine.settings log newest.now self.old }
+        ensures newest { (log : History) → HasNext self.old.engine.settings log newest.now self.old → IfOk result (IsNewest self.old.engine.settings log) }
+        ensures given { (log : History) → HasNext self.old.engine.settings log newest.now self.old → OnOk result (AreGiven self.old.engine.settings log self.new) }
+    {
+        let (number, cut) = self.reach(newest, steps)?;
+        let Built { edition, shown } = self.engine.edition(number)?;
+        self.show(number, cut, shown.into_vec());
+        Ok(edition)
+    }
+
+    // Brings the tracks up to the log's last tick, and answers the number of the edition there, and
+    // its cut.
+    fn reach<L: Ledger>(
+        &mut self,
+        newest: &[Event],
+        steps: &mut Steps<L>,
+    ) -> Result<(u64, usize), NoMemory>
+        requires { (log : History) × HasNext self.old.engine.settings log newest.now self.old }
+        ensures stands { (log : History) → HasNext self.old.engine.settings log newest.now self.old → OnOk result (StandsFor self.old.engine.settings log (length log.events) self.old.cut self.new.engine) }
+        ensures number { IfOk result (λ r. r.0 ≡ self.old.number + 1) }
+        ensures cut { IfOk result (λ r. r.1 ≡ self.old.cut + length newest.now) }
+    {
+        self.engine.absorb(newest)?;
         self.engine.settle(steps)?;
         let number = self.number.checked_add(1).ok_or(NoMemory)?;
-        let built = self.engine.edition(number)?;
-        let octets = octets_of(alloc, &built.edition)?;
-        self.engine.show(built.edition.cut, built.shown.into_vec());
-        self.number = number;
-        self.cut = events.len();
-        Ok(octets)
+        let cut = self.cut.checked_add(newest.len()).ok_or(NoMemory)?;
+        Ok((number, cut))
     }
-}
 
-// What Output and Prices get of an edition.
-fn octets_of(alloc: Global, edition: &Edition) -> Result<EditionOctets, NoMemory>
-    requires { All IsCert edition.now.certs }
-    ensures output { IfOk result (λ o. o.output.items ≡ concat edition.now.datagrams) }
-    ensures prices { IfOk result (λ o. o.prices.items ≡ edition_octets edition.now.number edition.now.cut edition.now.certs) }
-{
-    Ok(EditionOctets {
-        output: joined(alloc, edition.datagrams.as_slice())?,
-        prices: prices_of(alloc, edition.number, edition.cut, edition.certs.as_slice())?,
-    })
+    // The edition of this number was made, which shows all events up to the cut, and these tracks.
+    fn show(&mut self, number: u64, cut: usize, shown: Vec<ShownLine>)
+        requires rises { self.old.engine.before ≤ cut }
+        requires within { cut ≤ self.old.engine.count }
+        ensures number { self.new.number ≡ number }
+        ensures cut { self.new.cut ≡ cut }
+        ensures tracks { self.new.tracks ≡ length shown.items }
+        ensures stands { (settings : Settings) (log : History) (settled before : ℕ) → StandsFor settings log settled before self.old.engine → shown.items ≡ shown_at settings log cut → StandsFor settings log settled cut self.new.engine }
+    {
+        self.tracks = shown.len();
+        self.engine.show(cut as u64, shown);
+        self.number = number;
+        self.cut = cut;
+    }
 }
 
 // Datagrams, one after the other.
@@ -95,18 +137,6 @@ fn joined(alloc: Global, datagrams: &[Sequence<u8>]) -> Result<Vec<u8>, NoMemory
     let mut octets = Vec::new(alloc);
     for datagram in datagrams {
         octets.extend_from_slice(datagram.as_slice())?;
-    }
-    Ok(octets)
-}
-
-// What a price file has of an edition.
-fn prices_of(alloc: Global, number: u64, cut: u64, certs: &[Cert]) -> Result<Vec<u8>, NoMemory>
-    requires { All IsCert certs.now }
-    ensures { IfOk result (λ v. v.items ≡ edition_octets number cut certs.now) }
-{
-    let mut octets = write_edition(alloc, number, cut)?;
-    for cert in certs {
-        octets.extend_from_slice(&write_cert(alloc, cert)?)?;
     }
     Ok(octets)
 }

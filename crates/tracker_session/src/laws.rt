@@ -1,5 +1,6 @@
 // Laws of the definitions that the top call's clauses cite.
-ghost use Rattle.std.specs.Prelude.{◌≡◌, ◌<◌, ◌≤◌, ◌-◌, ℕ, List, All, Option, Some, count_by, length, take};
+ghost use Rattle.std.specs.Prelude.{◌≡◌, ◌<◌, ◌≤◌, ◌-◌, ◌^◌, ℕ, List, All, Option, Some, None, count_by, length, take};
+ghost use Rattle.io_traits.specs.Places.{place_limit};
 ghost use Rattle.io_traits.specs.declared.host.Place.{Place};
 ghost use Rattle.session_script.specs.Scripts.{Binding, End};
 ghost use Rattle.tracker_session.specs.Commands.{CommandGives};
@@ -10,11 +11,15 @@ ghost use Rattle.recording.specs.Items.{Item};
 ghost use Rattle.tracker_session.specs.Checking.{Checks, HasVerdict, Verdict};
 ghost use Rattle.tracker_session.specs.Inputs.{HasInput, IsInput};
 ghost use Rattle.admission_log.specs.Histories.{History};
-ghost use Rattle.tracker_session.specs.Counting.{is_datagram, is_delivery};
+ghost use Rattle.scene_gen.specs.Scenes.{scene};
+ghost use Rattle.tracker_session.specs.Counting.{counted, is_datagram, is_delivery};
+ghost use Rattle.tracker_session.specs.Exercise.{IsExercise};
 ghost use Rattle.tracker_session.specs.Faulty.{HaveFaults};
 ghost use Rattle.tracker_session.specs.ReplayGives.{ReplaysPartly};
 ghost use Rattle.tracker_session.specs.Replay.{HasReplay, IsReplayLog, Replays};
+ghost use Rattle.tracker_session.specs.SceneSettings.{AreSceneSettings};
 ghost use Rattle.tracker_session.specs.declared.counts.Counts.{Counts};
+ghost use Rattle.tracker_session.specs.declared.totals.Totals.{Totals};
 
 /// An input has exactly one reading, whether or not it passes the limit.
 pub fn one_input()
@@ -29,8 +34,15 @@ pub fn one_replay()
 {}
 
 /// What Output got where a replay broke off is a prefix of its output.
-pub fn front_of_replay()
+pub fn prefix_of_replay()
     ensures { (settings : Settings) (octets part prices output : List ℕ) (counts : Counts) (fault : Option ℕ) → ReplaysPartly settings octets part prices → Replays settings octets output counts fault → (n : ℕ) × (n ≤ length output) × (part ≡ take n output) }
+{}
+
+/// An exercise tells what a replay of the scene's recording under the settings of a scene tells: the same counts, as
+/// many octets as its output has, and no fault.
+pub fn exercise_as_replayed()
+    ensures { (seed aircraft seconds late : ℕ) (told counts : Counts) (totals : Totals) (settings : Settings) (output : List ℕ) (fault : Option ℕ) → seconds < 2 ^ 16 → length (scene seed aircraft seconds late) ≤ place_limit → IsExercise seed aircraft seconds late told totals → AreSceneSettings settings
+        → Replays settings (scene seed aircraft seconds late) output counts fault → (told ≡ counts) × (totals.octets ≡ counted (length output)) × (fault ≡ None) }
 {}
 
 /// The datagrams of a replay that aren't in its log, which are counted as malformed, are those with a fault.

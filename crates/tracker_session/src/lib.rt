@@ -7,11 +7,16 @@ mod counts;
 mod editions;
 mod input;
 mod laws;
+mod scene_settings;
 mod taking;
+mod totals;
 mod words;
 
 pub use batch::run_batch;
-pub use laws::{front_of_replay, malformed_datagrams, one_check, one_end, one_input, one_replay};
+pub use laws::{
+    exercise_as_replayed, malformed_datagrams, one_check, one_end, one_input, one_replay,
+    prefix_of_replay,
+};
 pub use session_script::{Spot, Status};
 pub use words::{Command, WordsError, parse_words};
 

@@ -4,6 +4,7 @@ ghost use Rattle.io_traits.specs.MemHost.{state_of};
 ghost use Rattle.io_traits.specs.declared.host.Place.{Place};
 
 mod checks;
+mod exercises;
 mod faults;
 mod replays;
 mod scenes;

@@ -1,7 +1,7 @@
 // The words of the command line.
 ghost use Rattle.std.specs.Prelude.{◌≡◌, ◌≢◌, ◌<◌, ◌≤◌, ◌^◌, ◌↔◌, ◌∷◌, [], ℕ, IfSome, IsNone, IsTrue};
 ghost use Rattle.std.specs.Fmt.{decimal};
-ghost use Rattle.tracker_session.specs.Words.{IsPlain, Parsed, is_name, number_in, texts};
+ghost use Rattle.tracker_session.specs.Words.{IsPlain, Parsed, ParsedAs, exercise_with, is_name, number_in, replay_with, scene_numbers, texts};
 
 use std::alloc::{AllocError, Global};
 
@@ -34,6 +34,19 @@ pub enum Command {
         /// The name of the output, the recording.
         output: String,
     },
+    /// `exercise SEED AIRCRAFT SECONDS LATE`: replays a scene, and keeps nothing.
+    Exercise {
+        /// What the scene is drawn from.
+        seed: u64,
+        /// How many aircraft fly, from 1 to 2,000.
+        aircraft: u16,
+        /// For how many seconds they are seen, from 1 to 3,600.
+        seconds: u16,
+        /// How many of a hundred plots come late.
+        late: u8,
+        /// How many workers share the work, from 1 to 16.
+        workers: u8,
+    },
     /// `check PRICES`: judges the certificates of a price file.
     Check {
         /// The name of the prices.
@@ -60,8 +73,8 @@ impl From<AllocError> for WordsError {
     }
 }
 
-/// The command that the words are: `replay` and four names; `check` and one; or `scene`, four numbers and a
-/// name. A name isn't empty and doesn't begin with two dashes. A number has decimal digits alone, without a
+/// The command that the words are: `replay` and four names; `check` and one; `scene`, four numbers and a name;
+/// or `exercise` and four numbers. A name isn't empty and doesn't begin with two dashes. A number has decimal digits alone, without a
 /// leading zero.
 ///
 /// `Usage` comes exactly for other words.
@@ -70,13 +83,13 @@ pub fn parse_words(alloc: Global, words: &[String]) -> Result<Command, WordsErro
 {
     match words {
         [command, prices] => parse_check(alloc, command.as_str(), prices.as_str()),
-        [command, settings, input, output, prices] => parse_replay(
+        [command, a, b, c, d] => parse_five(
             alloc,
             command.as_str(),
-            settings.as_str(),
-            input.as_str(),
-            output.as_str(),
-            prices.as_str(),
+            a.as_str(),
+            b.as_str(),
+            c.as_str(),
+            d.as_str(),
         ),
         [command, seed, aircraft, seconds, late, output] => parse_scene(
             alloc,
@@ -110,22 +123,36 @@ fn parse_check(alloc: Global, command: &str, prices: &str) -> Result<Command, Wo
 }
 
 // The command of five words.
-fn parse_replay(
+fn parse_five(
     alloc: Global,
     command: &str,
+    a: &str,
+    b: &str,
+    c: &str,
+    d: &str,
+) -> Result<Command, WordsError>
+    ensures { Parsed (command.now ∷ a.now ∷ b.now ∷ c.now ∷ d.now ∷ []) result }
+{
+    if command == "replay" {
+        return parse_replay(alloc, a, b, c, d);
+    }
+    if command == "exercise" {
+        return parse_exercise(a, b, c, d);
+    }
+    Err(WordsError::Usage)
+}
+
+// The command of these names.
+fn parse_replay(
+    alloc: Global,
     settings: &str,
     input: &str,
     output: &str,
     prices: &str,
 ) -> Result<Command, WordsError>
-    ensures { Parsed (command.now ∷ settings.now ∷ input.now ∷ output.now ∷ prices.now ∷ []) result }
+    ensures { ParsedAs (replay_with settings.now input.now output.now prices.now) result }
 {
-    if command != "replay"
-        || !is_name(settings)
-        || !is_name(input)
-        || !is_name(output)
-        || !is_name(prices)
-    {
+    if !is_name(settings) || !is_name(input) || !is_name(output) || !is_name(prices) {
         return Err(WordsError::Usage);
     }
     let settings = String::from_str(alloc, settings)?;
@@ -137,6 +164,27 @@ fn parse_replay(
         input,
         output,
         prices,
+        workers: 1,
+    })
+}
+
+// The command of these numbers.
+fn parse_exercise(
+    seed: &str,
+    aircraft: &str,
+    seconds: &str,
+    late: &str,
+) -> Result<Command, WordsError>
+    ensures { ParsedAs (exercise_with (scene_numbers seed.now aircraft.now seconds.now late.now)) result }
+{
+    let Some((seed, aircraft, seconds, late)) = scene_numbers(seed, aircraft, seconds, late) else {
+        return Err(WordsError::Usage);
+    };
+    Ok(Command::Exercise {
+        seed,
+        aircraft,
+        seconds,
+        late,
         workers: 1,
     })
 }
@@ -156,26 +204,33 @@ fn parse_scene(
     if command != "scene" || !is_name(output) {
         return Err(WordsError::Usage);
     }
-    let Some(seed) = number_in(0, u64::MAX, seed) else {
-        return Err(WordsError::Usage);
-    };
-    let Some(aircraft) = number_in(1, 2000, aircraft) else {
-        return Err(WordsError::Usage);
-    };
-    let Some(seconds) = number_in(1, 3600, seconds) else {
-        return Err(WordsError::Usage);
-    };
-    let Some(late) = number_in(0, 100, late) else {
+    let Some((seed, aircraft, seconds, late)) = scene_numbers(seed, aircraft, seconds, late) else {
         return Err(WordsError::Usage);
     };
     let output = String::from_str(alloc, output)?;
     Ok(Command::Scene {
         seed,
-        aircraft: aircraft as u16,
-        seconds: seconds as u16,
-        late: late as u8,
+        aircraft,
+        seconds,
+        late,
         output,
     })
+}
+
+// The seed, the aircraft, the seconds and the late plots of a scene, each in its range.
+fn scene_numbers(
+    seed: &str,
+    aircraft: &str,
+    seconds: &str,
+    late: &str,
+) -> Option<(u64, u16, u16, u8)>
+    ensures { result ≡ scene_numbers seed.now aircraft.now seconds.now late.now }
+{
+    let seed = number_in(0, u64::MAX, seed)?;
+    let aircraft = number_in(1, 2000, aircraft)?;
+    let seconds = number_in(1, 3600, seconds)?;
+    let late = number_in(0, 100, late)?;
+    Some((seed, aircraft as u16, seconds as u16, late as u8))
 }
 
 // Whether a word begins neither with a sign nor with a zero that more octets follow.

@@ -13,7 +13,8 @@ use Rattle.turn_lock.specs.Lists.{is_member, count_of, Begins}
 use Rattle.turn_lock.specs.Rule.{is_out, ticket_of, unraised, Course, Stands, Fits, SeatWith, Home, Away, Kept}
 use Rattle.turn_lock.specs.Steps.{both, spent}
 use Rattle.turn_lock.proofs.Lists.{set_there, all_set, each_append, is_member-append, is_member-left, is_member-right, count_of-append, is_member_counted}
-use Rattle.turn_lock.proofs.Keeps.{goes_on, stays}
+use Rattle.turn_lock.proofs.Stages.{stays}
+use Rattle.turn_lock.proofs.Views.{goes_on}
 
 abbrev pick : {P : Type 0} → Dec P → ℕ → ℕ → ℕ
 pick (yes _) a b = a

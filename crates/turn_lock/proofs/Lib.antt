@@ -1,5 +1,14 @@
 pub mod Lists
-pub mod Keeps
+pub mod Stages
+pub mod Indices
+pub mod Views
+pub mod Holders
+pub mod Drawing
+pub mod Looking
+pub mod Committing
+pub mod Raising
+pub mod Passing
+pub mod Refreshing
 pub mod Turning
 pub mod Seen
 pub mod Opening

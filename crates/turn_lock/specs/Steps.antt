@@ -1,5 +1,5 @@
 -- What each step on the table tells the seat that makes it.
-use Rattle.std.specs.Prelude.{◌≡◌, ◌≢◌, ℕ, ◌==◌, ◌≤◌, Bool, true, false, List, [], ◌∷◌, ◌++◌, length, count_by, if◌then◌else◌, Some, None}
+use Rattle.std.specs.Prelude.{◌≡◌, ◌≢◌, ℕ, ◌==◌, ◌<◌, ◌≤◌, Bool, true, false, List, [], ◌∷◌, ◌++◌, length, count_by, if◌then◌else◌, Some, None}
 use Rattle.atomic_table.specs.Table.{Me, Step, rest}
 use Rattle.turn_lock.specs.declared.rule.View.{View}
 use Rattle.turn_lock.specs.declared.rule.Stage.{Stage}
@@ -29,6 +29,23 @@ abbrev pub view_after : {E B : Type 0} → View E B → List E → List E → St
 view_after v found left st = record v { seen = left; mine = v.mine ++ new_index (length found) (length left); stage = st }
 
 module _ {S E B : Type 0} where
+  -- what a seat knows, and the value that it has, with its slot
+  abbrev pub view_of : Me S (View E B) → View E B
+  view_of m = m.0
+
+  abbrev pub slots_of : Me S (View E B) → List (ℕ × S)
+  slots_of m = m.1
+
+  -- the seat is between two turns, and has a number
+  pub record IsAtRest (m : Me S (View E B)) : Type 0 where
+    pub empty : slots_of m ≡ []
+    pub idle : (view_of m).stage ≡ Idle
+    pub numbered : 0 < length (view_of m).numbers
+
+  -- nothing changed
+  abbrev pub peeked : Step S → Me S (View E B) → ℕ → Me S (View E B) → Type 0
+  peeked st m r m' = m' ≡ m
+
   -- the ticket was drawn, where the word was as expected; or nothing changed
   abbrev pub drew : Step S → Me S (View E B) → ℕ → Me S (View E B) → Type 0
   drew st m r m' = (r ≡ st.first → m' ≡ (with_stage m.0 (Waiting r), m.1)) × (r ≢ st.first → m' ≡ m)
@@ -60,6 +77,39 @@ module _ {S E B : Type 0} where
     pub told : m.0.told ≤ n
     pub seen : count_by is_publish m.0.seen ≤ n
     pub view : m' ≡ (record m.0 { told = n }, m.1)
+
+-- what the seat that has the value may say of it at each step
+module _ {S E B : Type 0} (events : S → List E) (is_publish : E → Bool) (base : S → B) (m : Me S (View E B)) (ticket : ℕ) where
+  -- its call was made on the list that its look found, and left so many events
+  pub record MayCommit (count : ℕ) : Type 0 where
+    pub found : List E
+    pub value : S
+    pub stage : (view_of m).stage ≡ Holding ticket found
+    pub has : slots_of m ≡ (0, value) ∷ []
+    pub adds : Adds is_publish (is_member 0 (view_of m).numbers) found (events value)
+    pub count_is : count ≡ length (events value)
+
+  -- so many publishing events were there before the call, and so many are there now
+  pub record MayAnnounce (before published : ℕ) : Type 0 where
+    pub found : List E
+    pub stage : (view_of m).stage ≡ stage_after is_publish ticket found (view_of m).seen
+    pub before_is : before ≡ count_by is_publish found
+    pub published_is : published ≡ count_by is_publish (view_of m).seen
+
+  -- what it has seen is what the value stands for
+  pub record MayPass : Type 0 where
+    pub value : S
+    pub stage : (view_of m).stage ≡ Committed ticket
+    pub has : slots_of m ≡ (0, value) ∷ []
+    pub seen : events value ≡ (view_of m).seen
+    pub based : (view_of m).base ≡ Some (base value)
+
+  -- its call was made, with these counts
+  pub record MayEnd (before count published : ℕ) : Type 0 where
+    pub commits : MayCommit count
+    pub based : (view_of m).base ≡ Some (base commits.value)
+    pub before_is : before ≡ count_by is_publish commits.found
+    pub published_is : published ≡ count_by is_publish (events commits.value)
 
 -- how the head gives its first number away
 abbrev pub rest_of : List ℕ → List ℕ

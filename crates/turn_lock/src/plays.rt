@@ -1,9 +1,15 @@
 // What each step on the table tells the seat that makes it.
-ghost use Rattle.turn_lock.specs.Steps.{drew, looked, committed, raised, passed, refreshed, giver, given, both, spent};
+ghost use Rattle.turn_lock.specs.Steps.{peeked, drew, looked, committed, raised, passed, refreshed, giver, given, both, spent};
 
 use crate::logged::Logged;
 use crate::rule::View;
 use atomic_table::{Join, Play, Split};
+
+pub(crate) struct Peek;
+
+impl<V: Logged> Play<V, View<V::Event, V::Base>> for Peek {
+    ghost then = { peeked };
+}
 
 pub(crate) struct Draw;
 

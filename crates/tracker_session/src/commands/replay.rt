@@ -149,9 +149,10 @@ fn take_items<L: Ledger, H: Host>(
     let mut editions = editions;
     let mut steps = Steps::<L>::new(blank);
     for item in &reading.items {
-        if run.take(settings, *item)? {
-            let octets = editions.next(alloc, &run.log, &mut steps)?;
+        if run.take(alloc, settings, *item)? {
+            let octets = editions.next(alloc, run.newest(), &mut steps)?;
             write_edition(&octets, host)?;
+            run.forget();
         }
     }
     end_at(alloc, reading.fault, &run.counts)

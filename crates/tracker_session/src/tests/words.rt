@@ -63,13 +63,17 @@ fn refused<'a>(words: &'a [&'a str]) -> Run<'a> {
 
 #[test]
 fn other_words_are_refused(rt: HostRuntime) -> Result<(), Fail> {
-    let lines: [&[&str]; 17] = [
+    let lines: [&[&str]; 21] = [
         &[],
         &["replay", "a", "b", "c"],
         &["replay", "a", "b", "", "d"],
         &["replay", "--a", "b", "c", "d"],
         &["replay", "a", "b", "c", "d", "--workers=2"],
         &["serve", "a", "b", "c", "d"],
+        &["exercise", "1", "20", "30", "101"],
+        &["exercise", "1", "20", "30", "2", "x"],
+        &["exercise", "+1", "20", "30", "2"],
+        &["exercise", "1", "0", "30", "2"],
         &["check"],
         &["check", "a", "b"],
         &["check", "--a"],

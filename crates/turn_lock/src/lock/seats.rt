@@ -2,6 +2,7 @@
 ghost use Rattle.std.specs.Prelude.{◌≡◌, ℕ, ◌<◌, ◌≤◌, [], length, slice_get, vec_len, vec_capacity, All, EachIndex, Some};
 ghost use Rattle.turn_lock.specs.declared.rule.Stage.TheVariants.{Idle};
 ghost use Rattle.turn_lock.specs.Rule.{beginner};
+ghost use Rattle.turn_lock.specs.Steps.{view_of};
 ghost use Rattle.turn_lock.specs.Turns.{new_token, Gathers};
 
 use super::Turn;
@@ -20,7 +21,7 @@ pub(super) fn deal<V: Logged>(
     requires seats { 1 ≤ seats }
     requires room { (turns.old.items ≡ []) × (seats ≤ vec_capacity turns.old) }
     ensures len { vec_len turns.new ≡ seats }
-    ensures each { EachIndex turns.new.items (λ n. slice_get turns.new.items n ≡ Some (new_token seat.table_id seat.me.0.base n)) }
+    ensures each { EachIndex turns.new.items (λ n. slice_get turns.new.items n ≡ Some (new_token seat.table_id (view_of seat.me).base n)) }
 {
     // The highest number is given away first.
     let mut left = seats;
@@ -38,8 +39,8 @@ pub(super) fn gather<V: Logged>(lock_table: &LockTable<V>, mut turns: Vec<Turn<V
     requires own { All (λ t. t.table ≡ lock_table.now.table.shared.table_id) turns.items }
     requires some { 0 < vec_len turns }
     ensures own { result.table_id ≡ lock_table.now.table.shared.table_id }
-    ensures idle { result.me.0.stage ≡ Idle }
-    ensures gathers { Gathers result.me.0 turns.items }
+    ensures idle { (view_of result.me).stage ≡ Idle }
+    ensures gathers { Gathers (view_of result.me) turns.items }
 {
     let Some(last) = turns.pop() else {
         unreachable!()

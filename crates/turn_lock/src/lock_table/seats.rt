@@ -3,7 +3,7 @@ ghost use Rattle.std.specs.Prelude.{◌≡◌, ℕ, ◌<◌, [], ◌∷◌, List
 ghost use Rattle.turn_lock.specs.declared.rule.Stage.TheVariants.{Idle};
 ghost use Rattle.turn_lock.specs.Lists.{is_member};
 ghost use Rattle.turn_lock.specs.Rule.{beginner, IsWhole};
-ghost use Rattle.turn_lock.specs.Steps.{giver, given, both};
+ghost use Rattle.turn_lock.specs.Steps.{view_of, slots_of, giver, given, both};
 
 use super::{LockSeat, LockTable};
 use crate::logged::Logged;
@@ -40,11 +40,11 @@ impl<V: Logged> LockTable<V> {
     // The seat gives its first number away, to a new seat.
     pub(crate) fn split(&self, seat: &mut LockSeat<V>) -> LockSeat<V>
         requires own { seat.old.table_id ≡ self.now.table.shared.table_id }
-        requires idle { seat.old.me.0.stage ≡ Idle }
-        requires more { (n : ℕ) × (ns : List ℕ) × (seat.old.me.0.numbers ≡ n ∷ ns) × (is_member 0 ns ≡ true) }
+        requires idle { (view_of seat.old.me).stage ≡ Idle }
+        requires more { (n : ℕ) × (ns : List ℕ) × ((view_of seat.old.me).numbers ≡ n ∷ ns) × (is_member 0 ns ≡ true) }
         ensures own { (seat.new.table_id ≡ seat.old.table_id) × (result.table_id ≡ seat.old.table_id) }
-        ensures left { seat.new.me ≡ (giver seat.old.me.0, seat.old.me.1) }
-        ensures right { result.me ≡ (given seat.old.me.0, []) }
+        ensures left { seat.new.me ≡ (giver (view_of seat.old.me), slots_of seat.old.me) }
+        ensures right { result.me ≡ (given (view_of seat.old.me), []) }
     {
         self.table.shared.split_seat::<GiveAway>(seat)
     }
@@ -52,10 +52,10 @@ impl<V: Logged> LockTable<V> {
     // The seat takes in what another knows.
     pub(crate) fn join(&self, seat: &mut LockSeat<V>, other: LockSeat<V>)
         requires own { (seat.old.table_id ≡ self.now.table.shared.table_id) × (other.table_id ≡ self.now.table.shared.table_id) }
-        requires idle { (seat.old.me.0.stage ≡ Idle) × (0 < length seat.old.me.0.numbers) }
-        requires other { (other.me.1 ≡ []) × (other.me.0.stage ≡ Idle) }
+        requires idle { ((view_of seat.old.me).stage ≡ Idle) × (0 < length (view_of seat.old.me).numbers) }
+        requires other { (slots_of other.me ≡ []) × ((view_of other.me).stage ≡ Idle) }
         ensures own { seat.new.table_id ≡ seat.old.table_id }
-        ensures both { seat.new.me ≡ (both seat.old.me.0 other.me.0, seat.old.me.1) }
+        ensures both { seat.new.me ≡ (both (view_of seat.old.me) (view_of other.me), slots_of seat.old.me) }
     {
         self.table.shared.join_seat::<TakeIn>(seat, other);
     }
@@ -63,9 +63,9 @@ impl<V: Logged> LockTable<V> {
     // Gives the value up, to the seat that has all numbers.
     pub(crate) fn close(self, seat: LockSeat<V>) -> V
         requires own { seat.table_id ≡ self.table.shared.table_id }
-        requires idle { seat.me.0.stage ≡ Idle }
-        requires all { (n : ℕ) → n < self.table.shared.key.seats → is_member n seat.me.0.numbers ≡ true }
-        ensures { IsWhole V.events V.is_publish V.base (V.base self.table.shared.key.start.value) seat.me.0 result }
+        requires idle { (view_of seat.me).stage ≡ Idle }
+        requires all { (n : ℕ) → n < self.table.shared.key.seats → is_member n (view_of seat.me).numbers ≡ true }
+        ensures { IsWhole V.events V.is_publish V.base (V.base self.table.shared.key.start.value) (view_of seat.me) result }
     {
         let LockTable { table } = self;
         let mut closed = table.close_with(seat);

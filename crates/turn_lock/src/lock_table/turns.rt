@@ -3,7 +3,7 @@ ghost use Rattle.std.specs.Prelude.{◌≡◌, [], ◌∷◌, ◌+◌, ◌<◌, 
 ghost use Rattle.std.specs.Fn.{FnOnceReturnsAtMut, FnOnceTakesAtMut};
 ghost use Rattle.turn_lock.specs.declared.rule.Stage.TheVariants.{Idle, Holding};
 ghost use Rattle.turn_lock.specs.Lists.{is_member};
-ghost use Rattle.turn_lock.specs.Steps.{with_stage, view_after, Found, Adds};
+ghost use Rattle.turn_lock.specs.Steps.{view_of, slots_of, with_stage, view_after, IsAtRest, Found, Adds, MayEnd};
 
 use super::{LockSeat, LockTable};
 use crate::logged::Logged;
@@ -18,12 +18,12 @@ impl<V: Logged> LockTable<V> {
         call: F,
     ) -> R
         requires own { seat.old.table_id ≡ self.now.table.shared.table_id }
-        requires rests { (seat.old.me.1 ≡ []) × (seat.old.me.0.stage ≡ Idle) × (0 < length seat.old.me.0.numbers) }
-        requires may { (x : V) → Found V.events V.is_publish V.base seat.old.me.0 x → FnOnceTakesAtMut F.FnOnce call x }
-        requires adds { (x : V) (r : R) (y : V) → Found V.events V.is_publish V.base seat.old.me.0 x → FnOnceReturnsAtMut F.FnOnce call x r y → Adds V.is_publish (is_member 0 seat.old.me.0.numbers) (V.events x) (V.events y) }
-        requires base { (x : V) (r : R) (y : V) → Found V.events V.is_publish V.base seat.old.me.0 x → FnOnceReturnsAtMut F.FnOnce call x r y → V.base y ≡ V.base x }
+        requires rests { IsAtRest seat.old.me }
+        requires may { (x : V) → Found V.events V.is_publish V.base (view_of seat.old.me) x → FnOnceTakesAtMut F.FnOnce call x }
+        requires adds { (x : V) (r : R) (y : V) → Found V.events V.is_publish V.base (view_of seat.old.me) x → FnOnceReturnsAtMut F.FnOnce call x r y → Adds V.is_publish (is_member 0 (view_of seat.old.me).numbers) (V.events x) (V.events y) }
+        requires base { (x : V) (r : R) (y : V) → Found V.events V.is_publish V.base (view_of seat.old.me) x → FnOnceReturnsAtMut F.FnOnce call x r y → V.base y ≡ V.base x }
         ensures own { (seat.new.table_id ≡ seat.old.table_id) × (seat.new.id ≡ seat.old.id) }
-        ensures turn { (x : V) × (y : V) × Found V.events V.is_publish V.base seat.old.me.0 x × FnOnceReturnsAtMut F.FnOnce call x result y × (seat.new.me ≡ (view_after seat.old.me.0 (V.events x) (V.events y) Idle, [])) }
+        ensures turn { (x : V) × (y : V) × Found V.events V.is_publish V.base (view_of seat.old.me) x × FnOnceReturnsAtMut F.FnOnce call x result y × (seat.new.me ≡ (view_after (view_of seat.old.me) (V.events x) (V.events y) Idle, [])) }
     {
         let ticket = self.enter(rt, seat);
         let value = seat.slot_mut(&self.table.shared, 0);
@@ -38,9 +38,9 @@ impl<V: Logged> LockTable<V> {
     // Waits for a turn, and answers its ticket. The value is out with the seat then.
     fn enter<W: Wait>(&self, rt: &W, seat: &mut LockSeat<V>) -> u64
         requires own { seat.old.table_id ≡ self.now.table.shared.table_id }
-        requires rests { (seat.old.me.1 ≡ []) × (seat.old.me.0.stage ≡ Idle) × (0 < length seat.old.me.0.numbers) }
+        requires rests { IsAtRest seat.old.me }
         ensures own { (seat.new.table_id ≡ seat.old.table_id) × (seat.new.id ≡ seat.old.id) }
-        ensures taken { (x : V) × Found V.events V.is_publish V.base seat.old.me.0 x × (seat.new.me ≡ (with_stage seat.old.me.0 (Holding result (V.events x)), (0, x) ∷ [])) }
+        ensures taken { (x : V) × Found V.events V.is_publish V.base (view_of seat.old.me) x × (seat.new.me ≡ (with_stage (view_of seat.old.me) (Holding result (V.events x)), (0, x) ∷ [])) }
         ensures room { result + 1 < 2 ^ 64 }
     {
         let ticket = self.draw(rt, seat);
@@ -51,10 +51,10 @@ impl<V: Logged> LockTable<V> {
     // Ends the turn: what the value stands for is the history now.
     fn leave(&self, seat: &mut LockSeat<V>, ticket: u64, before: u64, count: u64, published: u64)
         requires own { seat.old.table_id ≡ self.now.table.shared.table_id }
-        requires held { (found : List V.Event) × (y : V) × (seat.old.me.0.stage ≡ Holding ticket found) × (seat.old.me.1 ≡ (0, y) ∷ []) × (seat.old.me.0.base ≡ Some (V.base y)) × Adds V.is_publish (is_member 0 seat.old.me.0.numbers) found (V.events y) × (before ≡ count_by V.is_publish found) × (count ≡ length (V.events y)) × (published ≡ count_by V.is_publish (V.events y)) }
+        requires held { MayEnd V.events V.is_publish V.base seat.old.me ticket before count published }
         requires room { ticket + 1 < 2 ^ 64 }
         ensures own { (seat.new.table_id ≡ seat.old.table_id) × (seat.new.id ≡ seat.old.id) }
-        ensures left { (found : List V.Event) (y : V) → seat.old.me.0.stage ≡ Holding ticket found → seat.old.me.1 ≡ (0, y) ∷ [] → seat.new.me ≡ (view_after seat.old.me.0 found (V.events y) Idle, []) }
+        ensures left { (found : List V.Event) (y : V) → (view_of seat.old.me).stage ≡ Holding ticket found → slots_of seat.old.me ≡ (0, y) ∷ [] → seat.new.me ≡ (view_after (view_of seat.old.me) found (V.events y) Idle, []) }
     {
         self.commit(seat, ticket, count);
         self.announce(seat, ticket, before, published);

@@ -1,7 +1,7 @@
-use Rattle.std.proofs.Common.{◌≡◌, ◌∙◌, ap, sym, subst, ◌-◌, take, drop, length, arith}
+use Rattle.std.proofs.Common.{◌∙◌, ap, subst, ◌-◌, take, drop, length, arith}
 use Rattle.admission_log.specs.Histories.{first}
-use Rattle.tracker_engine.specs.Engines.{StandsFor, IsAllSettled}
-use Rattle.tracker_engine.proofs.Advancing.{between, as_many, shown_there, more_legal, continues, taken_in}
+use Rattle.tracker_engine.specs.Engines.{StandsFor}
+use Rattle.tracker_engine.proofs.Advancing.{as_many, shown_there, more_legal, continues, taken_in}
 use Rattle.tracker_engine.proofs.tests.advance.Goals as goal
 
 pub absorb-requires : goal.absorb-requires

@@ -22,16 +22,16 @@ pub new-requires : goal.new-requires
 new-requires c =
     let batches = c.args.self.batches in
     let are : AreCertified c.args.state.now c.args.slot (plots_of batches.items) c.if-is_empty.table.certs = elim c.if-is_empty.branch [
-        | then-is_empty+in_ok-unmoved w ↦ none_certified c.args.state.now c.args.slot batches.items c.if-is_empty.table.certs (no_batches batches.items _ batches.ok.0 (sym c.is_empty.ensures ∙ w.if-is_empty.true)) (ap (λ t. t.certs) w.table-is ∙ w.in_ok-unmoved.ensures.certs)
-        | else-is_empty+in_ok-table w ↦ certified c.args.state.now c.args.slot batches.items w.deref.result.now c.if-is_empty.table.certs w.in_ok-table.field-0.certs w.deref.ensures.value (ap (λ t. t.certs) (sym w.table-is)) w.in_ok-table.ensures.certs w.in_ok-table.ensures.whole
-      ] in
+      | then-is_empty+in_ok-unmoved w ↦ none_certified c.args.state.now c.args.slot batches.items c.if-is_empty.table.certs (no_batches batches.items _ batches.ok.0 (sym c.is_empty.ensures ∙ w.if-is_empty.true)) (ap (λ t. t.certs) w.table-is ∙ w.in_ok-unmoved.ensures.certs)
+      | else-is_empty+in_ok-table w ↦ certified c.args.state.now c.args.slot batches.items w.deref.result.now c.if-is_empty.table.certs w.in_ok-table.field-0.certs w.deref.ensures.value (ap (λ t. t.certs) (sym w.table-is)) w.in_ok-table.ensures.certs w.in_ok-table.ensures.whole
+    ] in
     All-from_recursion (λ k. IsCert k.cert) c.if-is_empty.table.certs are.whole
 
 pub returns-clause-certs : goal.returns-clause-certs
 returns-clause-certs c =
     let batches = c.args.self.batches in
     let are : AreCertified c.args.state.now c.args.slot (plots_of batches.items) c.if-is_empty.table.certs = elim c.if-is_empty.branch [
-        | then-is_empty+in_ok-unmoved w ↦ none_certified c.args.state.now c.args.slot batches.items c.if-is_empty.table.certs (no_batches batches.items _ batches.ok.0 (sym c.is_empty.ensures ∙ w.if-is_empty.true)) (ap (λ t. t.certs) w.table-is ∙ w.in_ok-unmoved.ensures.certs)
-        | else-is_empty+in_ok-table w ↦ certified c.args.state.now c.args.slot batches.items w.deref.result.now c.if-is_empty.table.certs w.in_ok-table.field-0.certs w.deref.ensures.value (ap (λ t. t.certs) (sym w.table-is)) w.in_ok-table.ensures.certs w.in_ok-table.ensures.whole
-      ] in
+      | then-is_empty+in_ok-unmoved w ↦ none_certified c.args.state.now c.args.slot batches.items c.if-is_empty.table.certs (no_batches batches.items _ batches.ok.0 (sym c.is_empty.ensures ∙ w.if-is_empty.true)) (ap (λ t. t.certs) w.table-is ∙ w.in_ok-unmoved.ensures.certs)
+      | else-is_empty+in_ok-table w ↦ certified c.args.state.now c.args.slot batches.items w.deref.result.now c.if-is_empty.table.certs w.in_ok-table.field-0.certs w.deref.ensures.value (ap (λ t. t.certs) (sym w.table-is)) w.in_ok-table.ensures.certs w.in_ok-table.ensures.whole
+    ] in
     subst (AreCertified c.args.state.now c.args.slot (plots_of batches.items)) (sym c.in_ok-priced.ensures) are

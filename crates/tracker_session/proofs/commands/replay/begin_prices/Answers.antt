@@ -2,7 +2,7 @@ use Rattle.std.proofs.Common.{rules, ◌≡◌, ap, subst, List, ℕ, Err}
 use Rattle.std.specs.Arc.{arc_value}
 use Rattle.io_traits.specs.declared.host.Place.TheVariants as places
 use Rattle.price_form.specs.Files.{magic}
-use Rattle.session_script.specs.Scripts.{Follows, end_of}
+use Rattle.session_script.specs.Scripts.{end_of}
 use Rattle.session_script.specs.Steps.{PlaceWritten, WritingBroke}
 use Rattle.session_script.proofs.Following.{after_write, ended_so, writing_broke}
 use Rattle.tracker_session.specs.ReplayScript.{octets_script}

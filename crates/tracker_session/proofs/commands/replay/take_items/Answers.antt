@@ -1,4 +1,4 @@
-use Rattle.std.proofs.Common.{rules, ◌≡◌, ◌∙◌, ◌<◌, ◌≤◌, ap, sym, subst, ℕ, ◌+◌, List, ◌∷◌, length, get_or, drop, false, Err}
+use Rattle.std.proofs.Common.{rules, ◌≡◌, ◌∙◌, ◌<◌, ◌≤◌, ap, sym, subst, ℕ, ◌+◌, List, [], ◌∷◌, ◌++◌, length, get_or, take, drop, false, Err}
 use Rattle.io_traits.specs.Host.{HostState, IsBoundFor}
 use Rattle.io_traits.specs.declared.host.Place.TheVariants as places
 use Rattle.io_traits.specs.declared.host.Way.TheVariants as ways
@@ -7,21 +7,22 @@ use Rattle.recording.specs.declared.header.Header.TheVariants.{Second}
 use Rattle.recording.specs.declared.item.Item.{Item as Held}
 use Rattle.recording.specs.Items.{Item, IsItem}
 use Rattle.admission_log.specs.declared.settings.Settings.{Settings}
+use Rattle.admission_log.specs.declared.events.Event.{Event}
 use Rattle.admission_log.specs.Histories.{History}
-use Rattle.admission_log.specs.Legality.{IsLegal}
 use Rattle.session_script.specs.Scripts.{End, Follows, Script, end_of, writes}
 use Rattle.session_script.specs.declared.status.Status.{Status}
 use Rattle.session_script.specs.declared.status.Status.TheVariants.{Memory}
 use Rattle.session_script.proofs.Following.{after_write, ended_so, gave_up, still_open, writing_broke}
 use Rattle.tracker_session.specs.declared.counts.Counts.{Counts}
 use Rattle.tracker_session.specs.declared.editions.Editions.{Editions}
+use Rattle.tracker_session.specs.declared.taking.Run.{Run}
 use Rattle.tracker_session.specs.Counting.{counts_of}
 use Rattle.tracker_session.specs.Editions.{AreGiven, AreNewest, EditionBroke, EditionWritten, HasNext, at_output, at_prices}
 use Rattle.tracker_session.specs.Replay.{empty_log}
 use Rattle.tracker_session.specs.ReplayScript.{IsEndAt, ending, items_script}
-use Rattle.tracker_session.specs.Taking.{Takes, shows}
-use Rattle.tracker_session.proofs.Items.{all_taken, ends_at, item_fits, items_over, none_left, rest_at, shown_item, silent_item, stands_more}
-use Rattle.tracker_session.proofs.Nexts.{empty_legal, given_silent, next_after}
+use Rattle.tracker_session.specs.Taking.{shows}
+use Rattle.tracker_session.proofs.Items.{all_taken, ends_at, item_fits, items_over, next_taken, none_left, rest_at, shown_item, silent_item}
+use Rattle.tracker_session.proofs.Underway.{GoesOn, Stands, begins, has_next, shown_on, silent_on}
 use Rattle.tracker_session.proofs.commands.replay.take_items.Goals as goal
 use Rattle.tracker_session.proofs.commands.replay.take_items.Goals.{then-branch+in_ok-octets+in_ok-write_edition, else-branch}
 
@@ -36,17 +37,12 @@ pub loop-item-init : goal.loop-item-init
 loop-item-init g c =
     let state = g.H.Host.state in
     let settings = c.args.settings.now in
+    let start = c.args.reading.now.start in
     let items = items_of c.args.reading.now.items.items in
-    let stands = c.new-run.ensures settings in
-    let given = subst (λ (log : History). AreGiven settings log c.args.editions) (sym stands.log) c.requires.given in
-    record {
-      bound = c.requires.output;
-      priced = c.requires.prices;
-      legal = subst (λ (log : History). IsLegal settings log) (sym stands.log) (empty_legal settings c.args.reading.now.start c.args.editions c.requires.given);
-      given = given;
-      stands = stands;
-      follows = λ end new f. subst (λ (log : History). Follows (items_script settings (ending c.args.tells_biases c.args.reading.now.fault items) log items) end (state c.args.host.now) new) stands.log f;
-    }
+    let script = λ (log : History). items_script settings (ending c.args.tells_biases c.args.reading.now.fault items) log items in
+    let P = GoesOn script (script (empty_log start)) (state c.args.host.now) (state c.args.host.now) in
+    let on = begins settings c.args.tells_biases start P _ c.args.editions c.new-run.ensures.keeps c.new-run.ensures.newest c.requires.given (λ end new f. f) in
+    (on.0, c.requires.output, c.requires.prices, on.1)
 
 pub take-requires : goal.take-requires
 take-requires g c =
@@ -65,16 +61,14 @@ returns-in_err-take g c =
     let next = ending c.args.tells_biases c.args.reading.now.fault items in
     let settings = c.args.settings.now in
     let start = empty_log c.args.reading.now.start in
-    ended_so (items_script settings next start items) (Err Memory) (end_of c.from_residual.result) (state c.args.host.now) host (search rules) (c.loop-item.invariant.follows (Err Memory) host (gave_up (items_script settings next c.loop-item.run.log (drop c.loop-item.item-index items)) host))
+    ended_so (items_script settings next start items) (Err Memory) (end_of c.from_residual.result) (state c.args.host.now) host (search rules) (c.loop-item.invariant.3 (Err Memory) host (gave_up (items_script settings next c.loop-item.invariant.0.progress.log (drop c.loop-item.item-index items)) host))
 
 pub next-requires : goal.next-requires
 next-requires g c =
-    let settings = c.args.settings.now in
-    let inv = c.loop-item.invariant in
-    let t = c.in_ok-take.ensures.takes in
-    let new = c.take.new.self.log in
-    subst (λ (s : Settings). HasNext s new c.loop-item.editions) (sym inv.given.stands.settings_are)
-    (next_after settings c.loop-item.run.log new (item_of c.item-item.result) t.added c.loop-item.editions t.has.adds (t.shown_is ∙ c.if-branch.true) t.has.log (c.in_ok-take.ensures.legal inv.legal) inv.given)
+    let u = c.loop-item.invariant.0 in
+    let m = c.in_ok-take.ensures u.progress u.keeps in
+    let has = has_next c.args.settings.now c.args.tells_biases c.args.reading.now.start _ c.loop-item.run c.take.new.self c.loop-item.editions u (item_of c.item-item.result) c.in_ok-take.field-0 m (m.takes.shown_is ∙ c.if-branch.true) in
+    (m.after.log, subst (λ (z : Settings × List Event). HasNext z.0 m.after.log z.1 c.loop-item.editions) (λ i. (sym u.given.stands.settings_are i, sym c.newest.ensures i)) has)
 
 pub returns-in_err-octets : goal.returns-in_err-octets
 returns-in_err-octets g c =
@@ -84,7 +78,7 @@ returns-in_err-octets g c =
     let next = ending c.args.tells_biases c.args.reading.now.fault items in
     let settings = c.args.settings.now in
     let start = empty_log c.args.reading.now.start in
-    ended_so (items_script settings next start items) (Err Memory) (end_of c.from_residual-in_err-octets.result) (state c.args.host.now) host (search rules) (c.loop-item.invariant.follows (Err Memory) host (gave_up (items_script settings next c.loop-item.run.log (drop c.loop-item.item-index items)) host))
+    ended_so (items_script settings next start items) (Err Memory) (end_of c.from_residual-in_err-octets.result) (state c.args.host.now) host (search rules) (c.loop-item.invariant.3 (Err Memory) host (gave_up (items_script settings next c.loop-item.invariant.0.progress.log (drop c.loop-item.item-index items)) host))
 
 -- writing an edition broke off
 edition_broke : (output prices : List ℕ) (next : Script) (s : Status) (old new : HostState) → EditionBroke output prices s old new → Follows (writes places.Output output (writes places.Prices prices next)) (Err s) old new
@@ -99,9 +93,11 @@ pub returns-in_err-write_edition : goal.returns-in_err-write_edition
 returns-in_err-write_edition g c =
     let state = g.H.Host.state in
     let settings = c.args.settings.now in
+    let tells = c.args.tells_biases in
+    let begin = c.args.reading.now.start in
     let xs = c.args.reading.now.items.items in
     let items = items_of xs in
-    let next = ending c.args.tells_biases c.args.reading.now.fault items in
+    let next = ending tells c.args.reading.now.fault items in
     let i = c.loop-item.item-index in
     let d = c.item-item.result in
     let lt : i < length xs = search rules in
@@ -111,20 +107,24 @@ returns-in_err-write_edition g c =
     let s = c.in_err-write_edition.field-0.0 in
     let same : c.from_residual-in_err-write_edition.result ≡ Err s = search rules in
     let inv = c.loop-item.invariant in
-    let run' = c.take.new.self in
-    let t = c.in_ok-take.ensures.takes in
+    let u = inv.0 in
+    let m = c.in_ok-take.ensures u.progress u.keeps in
+    let t = m.takes in
+    let shown = t.shown_is ∙ c.if-branch.true in
+    let has = has_next settings tells begin _ c.loop-item.run c.take.new.self c.loop-item.editions u (item_of d) c.in_ok-take.field-0 m shown in
+    let own = subst (λ (z : Settings × List Event). HasNext z.0 m.after.log z.1 c.loop-item.editions) (λ i. (sym u.given.stands.settings_are i, sym c.newest.ensures i)) has in
     let octets = c.in_ok-octets.octets in
-    let newest = subst (λ (given : Settings). AreNewest given run'.log octets) inv.given.stands.settings_are c.in_ok-octets.ensures.newest in
-    ended_so (items_script settings next (empty_log c.args.reading.now.start) items) (Err s) (end_of c.from_residual-in_err-write_edition.result) (state c.args.host.now) new (ap end_of same) (inv.follows (Err s) new
-    (shown_item settings next c.loop-item.run run' (item_of d) (drop (i + 1) items) (drop i items) (rest_is xs i d lt is) t.added t.has (Err s) host new octets.output.items octets.prices.items (t.shown_is ∙ c.if-branch.true) newest.output newest.prices
-    (edition_broke octets.output.items octets.prices.items (items_script settings next run'.log (drop (i + 1) items)) s host new c.in_err-write_edition.ensures.broke)))
+    let newest = subst (λ (given : Settings). AreNewest given m.after.log octets) u.given.stands.settings_are (c.in_ok-octets.ensures.newest m.after.log own) in
+    ended_so (items_script settings next (empty_log begin) items) (Err s) (end_of c.from_residual-in_err-write_edition.result) (state c.args.host.now) new (ap end_of same) (inv.3 (Err s) new
+    (shown_item settings next u.progress m.after (item_of d) (drop (i + 1) items) (drop i items) (rest_is xs i d lt is) t.added t.has (Err s) host new octets.output.items octets.prices.items shown newest.output newest.prices
+    (edition_broke octets.output.items octets.prices.items (items_script settings next m.after.log (drop (i + 1) items)) s host new c.in_err-write_edition.ensures.broke)))
 
 pub loop-item-preserved : goal.loop-item-preserved
 loop-item-preserved g c =
     let state = g.H.Host.state in
     let settings = c.args.settings.now in
     let tells = c.args.tells_biases in
-    let start = c.args.reading.now.start in
+    let begin = c.args.reading.now.start in
     let xs = c.args.reading.now.items.items in
     let items = items_of xs in
     let next = ending tells c.args.reading.now.fault items in
@@ -133,47 +133,45 @@ loop-item-preserved g c =
     let lt : i < length xs = search rules in
     let is = here _ xs i d c.deref-item-items.ensures.value c.item-item.is in
     let rest = rest_is xs i d lt is in
-    let run = c.loop-item.run in
-    let run' = c.take.new.self in
+    let longer = next_taken xs i d lt ∙ ap (λ (x : Held). take i items ++ item_of x ∷ []) is in
     let inv = c.loop-item.invariant in
+    let u = inv.0 in
     let host = state c.loop-item.host in
     let now = state c.if-branch.host in
-    let t = c.in_ok-take.ensures.takes in
-    let legal = c.in_ok-take.ensures.legal inv.legal in
-    let stands = stands_more settings tells start xs i d c.in_ok-take.field-0 run run' lt inv.stands (subst (λ (x : Held). Takes settings (item_of x) c.in_ok-take.field-0 run run') (sym is) t) in
+    let m = c.in_ok-take.ensures u.progress u.keeps in
+    let t = m.takes in
+    let P = GoesOn (λ log. items_script settings next log (drop (i + 1) items)) (items_script settings next (empty_log begin) items) (state c.args.host.now) now in
     elim c.if-branch.branch [
       | then-branch+in_ok-octets+in_ok-write_edition w ↦ (
           let new = state w.write_edition.new.host in
           let same : now ≡ new = ap state w.host-is in
           let octets = w.in_ok-octets.octets in
-          let eq = inv.given.stands.settings_are in
-          let newest = subst (λ (given : Settings). AreNewest given run'.log octets) eq w.in_ok-octets.ensures.newest in
-          let given = subst (λ (s : Settings). AreGiven s run'.log w.next.new.self) eq w.in_ok-octets.ensures.given in
+          let eq = u.given.stands.settings_are in
+          let shown = t.shown_is ∙ w.if-branch.true in
+          let has = has_next settings tells begin (take i items) c.loop-item.run c.take.new.self c.loop-item.editions u (item_of d) c.in_ok-take.field-0 m shown in
+          let own = subst (λ (z : Settings × List Event). HasNext z.0 m.after.log z.1 c.loop-item.editions) (λ j. (sym eq j, sym w.newest.ensures j)) has in
+          let newest = subst (λ (given : Settings). AreNewest given m.after.log octets) eq (w.in_ok-octets.ensures.newest m.after.log own) in
+          let given = subst (λ (s : Settings). AreGiven s m.after.log w.next.new.self) eq (w.in_ok-octets.ensures.given m.after.log own) in
           let wrote = w.in_ok-write_edition.ensures.written in
-          let behind = items_script settings next run'.log (drop (i + 1) items) in
-          record {
-            bound = subst (λ (h : HostState). IsBoundFor ways.Write h places.Output) (sym same) (still_open places.Output _ _ wrote.mid new wrote.second.touches (still_open places.Output _ _ host wrote.mid wrote.first.touches inv.bound));
-            priced = subst (λ (h : HostState). IsBoundFor ways.Write h places.Prices) (sym same) (still_open places.Prices _ _ wrote.mid new wrote.second.touches (still_open places.Prices _ _ host wrote.mid wrote.first.touches inv.priced));
-            legal = legal;
-            given = subst (λ (e : Editions). AreGiven settings run'.log e) (sym w.editions-is) given;
-            stands = stands;
-            follows = λ end last f. inv.follows end last
-                (shown_item settings next run run' (item_of d) (drop (i + 1) items) (drop i items) rest t.added t.has end host last octets.output.items octets.prices.items (t.shown_is ∙ w.if-branch.true) newest.output newest.prices
-                (edition_written octets.output.items octets.prices.items behind end host new last wrote (subst (λ (h : HostState). Follows behind end h last) same f)));
-          })
+          let behind = items_script settings next m.after.log (drop (i + 1) items) in
+          let goes : P m.after.log = λ end last f. inv.3 end last
+          (shown_item settings next u.progress m.after (item_of d) (drop (i + 1) items) (drop i items) rest t.added t.has end host last octets.output.items octets.prices.items shown newest.output newest.prices
+          (edition_written octets.output.items octets.prices.items behind end host new last wrote (subst (λ (h : HostState). Follows behind end h last) same f))) in
+          let on = shown_on settings tells begin (take i items) c.loop-item.run c.take.new.self c.loop-item.editions u (item_of d) c.in_ok-take.field-0 m shown P goes w.forget.new.self w.next.new.self given w.forget.ensures.log w.forget.ensures.counts w.forget.ensures.newest in
+          let all = subst (λ (z : List Item × (Run × Editions)). Stands settings tells begin P z.0 z.1.0 z.1.1) (λ j. (sym longer j, (sym w.run-is j, sym w.editions-is j))) on in (
+            all.0,
+            subst (λ (h : HostState). IsBoundFor ways.Write h places.Output) (sym same) (still_open places.Output _ _ wrote.mid new wrote.second.touches (still_open places.Output _ _ host wrote.mid wrote.first.touches inv.1)),
+            subst (λ (h : HostState). IsBoundFor ways.Write h places.Prices) (sym same) (still_open places.Prices _ _ wrote.mid new wrote.second.touches (still_open places.Prices _ _ host wrote.mid wrote.first.touches inv.2)),
+            all.1,
+          ))
       | else-branch w ↦ (
           let same : now ≡ host = ap state w.host-is in
           let silent : shows t.added ≡ false = t.shown_is ∙ w.if-branch.false in
-          let given = subst (λ (l : History). AreGiven settings l c.loop-item.editions) (sym t.has.log) (given_silent settings run.log (item_of d) t.added c.loop-item.editions t.has.adds silent inv.given) in
-          record {
-            bound = subst (λ (h : HostState). IsBoundFor ways.Write h places.Output) (sym same) inv.bound;
-            priced = subst (λ (h : HostState). IsBoundFor ways.Write h places.Prices) (sym same) inv.priced;
-            legal = legal;
-            given = subst (λ (e : Editions). AreGiven settings run'.log e) (sym w.editions-is) given;
-            stands = stands;
-            follows = λ end last f. inv.follows end last
-                (silent_item settings next run run' (item_of d) (drop (i + 1) items) (drop i items) rest t.added t.has end host last silent (subst (λ (h : HostState). Follows (items_script settings next run'.log (drop (i + 1) items)) end h last) same f));
-          })
+          let goes : P m.after.log = λ end last f. inv.3 end last
+          (silent_item settings next u.progress m.after (item_of d) (drop (i + 1) items) (drop i items) rest t.added t.has end host last silent (subst (λ (h : HostState). Follows (items_script settings next m.after.log (drop (i + 1) items)) end h last) same f)) in
+          let on = silent_on settings tells begin (take i items) c.loop-item.run c.take.new.self c.loop-item.editions u (item_of d) c.in_ok-take.field-0 m P goes silent in
+          let all = subst (λ (z : List Item × (Run × Editions)). Stands settings tells begin P z.0 z.1.0 z.1.1) (λ j. (sym longer j, (sym w.run-is j, sym w.editions-is j))) on in
+          (all.0, subst (λ (h : HostState). IsBoundFor ways.Write h places.Output) (sym same) inv.1, subst (λ (h : HostState). IsBoundFor ways.Write h places.Prices) (sym same) inv.2, all.1))
     ]
 
 pub returns : goal.returns
@@ -187,8 +185,9 @@ returns g c =
     let i = c.loop-item.item-index in
     let all : length xs ≤ i = search rules in
     let host = state c.loop-item.host in
-    let run = c.loop-item.run in
+    let u = c.loop-item.invariant.0 in
+    let log = u.progress.log in
     let end = end_of c.end_at.result in
-    let part = subst (λ (n : Counts). IsEndAt fault n end) c.loop-item.invariant.stands.counts c.end_at.ensures in
-    let so = subst (λ (its : List Item). IsEndAt fault (counts_of tells its run.log) end) (all_taken xs i all) part in
-    c.loop-item.invariant.follows end host (items_over settings (ending tells fault items) run.log (drop i items) end host host (none_left xs i all) (ends_at fault (counts_of tells items run.log) end host so))
+    let part = subst (λ (n : Counts). IsEndAt fault n end) (u.keeps.counts ∙ u.stands.counts) c.end_at.ensures in
+    let so = subst (λ (its : List Item). IsEndAt fault (counts_of tells its log) end) (all_taken xs i all) part in
+    c.loop-item.invariant.3 end host (items_over settings (ending tells fault items) log (drop i items) end host host (none_left xs i all) (ends_at fault (counts_of tells items log) end host so))

@@ -1,8 +1,7 @@
-use Rattle.std.proofs.Common.{◌≡◌, subst, List, ℕ, Ok, Err}
+use Rattle.std.proofs.Common.{subst, List, ℕ, Ok, Err}
 use Rattle.std.specs.Prelude.{IfErr, Result}
 use Rattle.io_traits.specs.declared.host.Place.TheVariants as places
 use Rattle.session_script.specs.Steps.{PlaceWritten, WritingBroke}
-use Rattle.session_script.specs.declared.status.Status.{Status}
 use Rattle.tracker_session.specs.Editions.{EditionBroke, at_prices}
 use Rattle.tracker_session.proofs.commands.replay.write_edition.Goals as goal
 

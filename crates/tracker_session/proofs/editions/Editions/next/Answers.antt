@@ -1,72 +1,53 @@
-use Rattle.std.proofs.Common.{rules, ◌≡◌, ◌∙◌, ap, sym, subst, arith, ℕ, ◌+◌, length}
+use Rattle.std.proofs.Common.{◌≡◌, ◌∙◌, ap, sym, subst, arith, ℕ, length}
+use Rattle.std.specs.List.{concat}
 use Rattle.edition_form.specs.Datagrams.{shown_at}
-use Rattle.tracker_engine.specs.Engines.{Continues, StandsFor}
-use Rattle.tracker_session.proofs.Nexts.{absorbed, continues, cut_within, given_next, new_events, number_of_events, output_is, prices_are, shown_here}
+use Rattle.tracker_engine.specs.Engines.{StandsFor}
+use Rattle.tracker_session.proofs.Nexts.{given_next, picture_output, picture_prices, shown_here, whole_cut}
 use Rattle.tracker_session.proofs.editions.Editions.next.Goals as goal
 
-pub absorb-requires : goal.absorb-requires
-absorb-requires g c =
+pub pictured-requires : goal.pictured-requires
+pictured-requires g c =
     let editions = c.args.self.now in
-    let new = new_events c.events-events.result.now c.args.log.now.events editions.cut c.events-events.ensures.value in
-    record { continues = subst (Continues editions.engine) (sym new) (continues editions.engine.settings c.args.log.now editions c.requires) }
-
-pub edition-requires-clause-settled : goal.edition-requires-clause-settled
-edition-requires-clause-settled g c =
-    let editions = c.args.self.now in
-    let settings = editions.engine.settings in
-    let log = c.args.log.now in
-    let settled = c.in_ok-settle.ensures.stands settings log editions.cut editions.cut (absorbed settings log editions c.requires c.events-events.result.now c.events-events.ensures.value c.absorb.new.self c.in_ok-absorb.ensures.stands) in
-    record { settings = settings; log = log; before = editions.cut; stands = settled }
-
-pub octets_of-requires : goal.octets_of-requires
-octets_of-requires g c =
-    let editions = c.args.self.now in
-    let settings = editions.engine.settings in
-    let log = c.args.log.now in
-    let settled = c.in_ok-settle.ensures.stands settings log editions.cut editions.cut (absorbed settings log editions c.requires c.events-events.result.now c.events-events.ensures.value c.absorb.new.self c.in_ok-absorb.ensures.stands) in
-    c.in_ok-built.ensures.whole settings log editions.cut settled
+    let h = c.requires in
+    record { settled = record { settings = editions.engine.settings; log = h.0; before = editions.cut; stands = c.in_ok-number.ensures.stands h.0 h.1 } }
 
 pub show-requires-clause-rises : goal.show-requires-clause-rises
 show-requires-clause-rises g c =
     let editions = c.args.self.now in
     let settings = editions.engine.settings in
-    let log = c.args.log.now in
-    let settled = c.in_ok-settle.ensures.stands settings log editions.cut editions.cut (absorbed settings log editions c.requires c.events-events.result.now c.events-events.ensures.value c.absorb.new.self c.in_ok-absorb.ensures.stands) in
-    let built = c.in_ok-built.ensures.edition settings log editions.cut settled in
-    omega (arith, settled.before_is, built.cut, cut_within settings log editions c.requires, number_of_events settings log editions c.requires)
+    let h = c.requires in
+    let stands = c.in_ok-number.ensures.stands h.0 h.1 in
+    omega (arith, stands.before_is, c.in_ok-number.ensures.cut)
 
 pub show-requires-clause-within : goal.show-requires-clause-within
 show-requires-clause-within g c =
     let editions = c.args.self.now in
     let settings = editions.engine.settings in
-    let log = c.args.log.now in
-    let settled = c.in_ok-settle.ensures.stands settings log editions.cut editions.cut (absorbed settings log editions c.requires c.events-events.result.now c.events-events.ensures.value c.absorb.new.self c.in_ok-absorb.ensures.stands) in
-    let built = c.in_ok-built.ensures.edition settings log editions.cut settled in
-    omega (arith, settled.count_is, built.cut)
+    let h = c.requires in
+    omega (arith, (c.in_ok-number.ensures.stands h.0 h.1).count_is, c.in_ok-number.ensures.cut, whole_cut settings h.0 c.args.newest.now editions h.1)
 
 pub returns-clause-newest : goal.returns-clause-newest
-returns-clause-newest g c =
+returns-clause-newest g c log h =
     let editions = c.args.self.now in
     let settings = editions.engine.settings in
-    let log = c.args.log.now in
-    let settled = c.in_ok-settle.ensures.stands settings log editions.cut editions.cut (absorbed settings log editions c.requires c.events-events.result.now c.events-events.ensures.value c.absorb.new.self c.in_ok-absorb.ensures.stands) in
-    let built = c.in_ok-built.ensures.edition settings log editions.cut settled in
-    let n : c.in_ok-number.number ≡ editions.number + 1 = search rules in
-    let edition = c.in_ok-built.built.edition in
+    let newest = c.args.newest.now in
+    let stands = c.in_ok-number.ensures.stands log h in
+    let number = c.in_ok-number.number in
+    let n = c.in_ok-number.ensures.number in
     record {
-      output = output_is settings log editions c.requires c.in_ok-number.number edition c.in_ok-octets.octets.output.items n built c.in_ok-octets.ensures.output;
-      prices = prices_are settings log editions c.requires c.in_ok-number.number edition c.in_ok-octets.octets.prices.items n built c.in_ok-octets.ensures.prices;
+      output = picture_output settings log newest editions h number c.in_ok-datagrams.field-0.datagrams c.in_ok-output.output.items n (c.in_ok-datagrams.ensures.datagrams settings log editions.cut stands) (c.in_ok-output.ensures ∙ ap concat c.as_slice.ensures);
+      prices = picture_prices settings log newest editions h number c.in_ok-prices.prices.items n (c.in_ok-prices.ensures settings log editions.cut stands);
     }
 
 pub returns-clause-given : goal.returns-clause-given
-returns-clause-given g c =
+returns-clause-given g c log h =
     let editions = c.args.self.now in
     let settings = editions.engine.settings in
-    let log = c.args.log.now in
-    let settled = c.in_ok-settle.ensures.stands settings log editions.cut editions.cut (absorbed settings log editions c.requires c.events-events.result.now c.events-events.ensures.value c.absorb.new.self c.in_ok-absorb.ensures.stands) in
-    let built = c.in_ok-built.ensures.edition settings log editions.cut settled in
-    let n : c.in_ok-number.number ≡ editions.number + 1 = search rules in
-    let shown = c.into_vec.ensures ∙ c.in_ok-built.ensures.shown settings log editions.cut settled ∙ shown_here settings log editions c.requires ∙ ap (shown_at settings log) (sym built.cut) in
-    let stands = c.show.ensures settings log (length log.events) editions.cut settled shown in
-    given_next settings log editions c.requires (record { engine = c.show.new.self; number = c.in_ok-number.number; cut = length c.events-events.result.now }) n (ap length c.events-events.ensures.value)
-    (subst (λ (n : ℕ). StandsFor settings log (length log.events) n c.show.new.self) built.cut stands)
+    let newest = c.args.newest.now in
+    let stands = c.in_ok-number.ensures.stands log h in
+    let cut : c.in_ok-number.cut ≡ length log.events = c.in_ok-number.ensures.cut ∙ whole_cut settings log newest editions h in
+    let shown = c.into_vec.ensures ∙ c.in_ok-datagrams.ensures.shown settings log editions.cut stands in
+    let there = shown ∙ shown_here settings log newest editions h ∙ ap (shown_at settings log) (sym cut) in
+    let after = c.show.ensures.stands settings log (length log.events) editions.cut stands there in
+    given_next settings log newest editions h c.show.new.self (c.show.ensures.number ∙ c.in_ok-number.ensures.number) (c.show.ensures.cut ∙ cut) (c.show.ensures.tracks ∙ ap length shown)
+    (subst (λ (n : ℕ). StandsFor settings log (length log.events) n c.show.new.self.engine) cut after)

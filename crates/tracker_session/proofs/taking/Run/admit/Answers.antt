@@ -1,26 +1,18 @@
-use Rattle.std.proofs.Common.{rules, ◌≡◌, ◌∙◌, ◌+◌, ap}
+use Rattle.std.proofs.Common.{rules, ◌≡◌, ◌∙◌, ap, refl}
+use Rattle.std.proofs.lemmas.Result.{on_ok_weaker}
 use Rattle.asterix_frame.specs.Datagrams.{DatagramFault}
-use Rattle.admission_log.specs.Deliveries.{outcomes_in}
-use Rattle.admission_log.specs.Histories.{History}
-use Rattle.tracker_session.specs.Counting.{counted, others_in, with_told}
-use Rattle.tracker_session.proofs.Tallying.{admitted_taken, malformed_taken}
+use Rattle.tracker_session.proofs.Moving.{delivered_on, malformed_on}
 use Rattle.tracker_session.proofs.taking.Run.admit.Goals as goal
 
-pub returns-in-Ok-clause-takes : goal.returns-in-Ok-clause-takes
-returns-in-Ok-clause-takes c =
-    let settings = c.args.settings.now in
-    let old = c.args.self.now in
+pub returns-in-Ok : goal.returns-in-Ok
+returns-in-Ok c before keeps =
     let d = c.in-Ok.ensures.delivered in
-    let event = d.2.event in
-    let told : c.as_slice.result.now ≡ outcomes_in event = c.as_slice.ensures ∙ d.2.told_is in
-    let grown = c.count_outcomes.ensures ∙ ap (λ t. with_told t old.counts) told in
-    let here = c.others_in_last-other.ensures old.log.events event (ap (λ (h : History). h.events) d.2.new_is) in
-    let other : c.more-self.result ≡ counted (old.counts.other + others_in event) = c.more-self.ensures ∙ (λ i. counted ((grown i).other + here i)) in
-    admitted_taken settings c.args.feed c.args.octets.now d.0 event old _ d.1 d.2.is_delivery d.2.new_is (λ i. record (grown i) { other = other i })
+    on_ok_weaker c.note_delivery.result (λ newest. delivered_on c.args.settings.now before c.args.self.now c.note_delivery.new.self keeps c.args.feed c.args.octets.now d.0 c.in-Ok.event d.1 d.2
+    (c.note_delivery.ensures.log ∙ c.in-Ok.ensures.ok before.log keeps.log) c.note_delivery.ensures.counts newest (c.in-Ok.ensures.legal before.log keeps.log)) c.note_delivery.ensures.newest
 
-pub returns-in-Err-Malformed-clause-takes : goal.returns-in-Err-Malformed-clause-takes
-returns-in-Err-Malformed-clause-takes c =
+pub returns-in-Err-Malformed : goal.returns-in-Err-Malformed
+returns-in-Err-Malformed c before keeps =
     let m = c.in-Err-Malformed.field-0-0 in
     let fault : DatagramFault c.args.octets.now m.offset m.cause = search rules in
     let log : c.admit.new.self ≡ c.args.self.now.log = search rules in
-    malformed_taken c.args.settings.now c.args.feed c.args.octets.now c.args.self.now _ (record { offset = m.offset; cause = m.cause; fault = fault }) log (ap (λ n. record c.args.self.now.counts { malformed = n }) c.more-self-in-Err-Malformed.ensures)
+    malformed_on c.args.settings.now before c.args.self.now _ keeps log refl c.args.feed c.args.octets.now (record { offset = m.offset; cause = m.cause; fault = fault }) (ap (λ n. record c.args.self.now.counts { malformed = n }) c.more-self.ensures)

@@ -2,7 +2,7 @@ use Rattle.turn_lock.proofs.Seen.{finds, adds, has_number, rests_again, turns}
 use Rattle.turn_lock.proofs.lock.TurnLock.with_turn.Goals as goal
 
 pub take_turn-requires-clause-rests : goal.take_turn-requires-clause-rests
-take_turn-requires-clause-rests g c = let r = c.turn.invariant in (r.empty, r.idle, has_number c.turn.inside.seat.me r)
+take_turn-requires-clause-rests g c = let r = c.turn.invariant in record { empty = r.empty; idle = r.idle; numbered = has_number c.turn.inside.seat.me r }
 
 pub take_turn-requires-clause-may : goal.take_turn-requires-clause-may
 take_turn-requires-clause-may g c = λ x f. c.requires.may x (finds c.turn.inside.seat.table_id c.turn.inside.seat.me c.args.turn.now g.V.Logged.events g.V.Logged.is_publish g.V.Logged.base c.args.self.now x c.turn.invariant c.turn.view_is c.requires.own f)

@@ -1,5 +1,5 @@
 use Rattle.std.proofs.Common.{rules}
-use Rattle.turn_lock.proofs.Keeps.{refreshes}
+use Rattle.turn_lock.proofs.Refreshing.{refreshes}
 use Rattle.turn_lock.proofs.lock_table.LockTable.fresh.Goals as goal
 
 pub load-requires : goal.load-requires

@@ -1,5 +1,5 @@
 use Rattle.std.proofs.Common.{rules}
-use Rattle.turn_lock.proofs.Keeps.{raises}
+use Rattle.turn_lock.proofs.Raising.{raises}
 use Rattle.turn_lock.proofs.lock_table.LockTable.raise.Goals as goal
 
 pub store-requires : goal.store-requires

@@ -1,5 +1,5 @@
 use Rattle.std.proofs.Common.{rules}
-use Rattle.turn_lock.proofs.Keeps.{looks}
+use Rattle.turn_lock.proofs.Looking.{looks}
 use Rattle.turn_lock.proofs.lock_table.LockTable.wait.Goals as goal
 
 pub load-requires : goal.load-requires

@@ -1,0 +1,5 @@
+pub mod Newest
+pub mod Shared
+pub mod Added
+pub mod Tokens
+pub mod Turns

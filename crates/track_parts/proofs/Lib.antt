@@ -1,0 +1,3 @@
+pub mod TwoLists
+pub mod Picks
+pub mod Stepping

@@ -1,0 +1,4 @@
+pub mod Members
+pub mod Tracking
+pub mod Woven
+pub mod Laws

@@ -1,0 +1,96 @@
+// `exercise`: the replay of a scene in memory, of which nothing but counts is kept.
+ghost use Rattle.std.specs.Prelude.{◌≡◌, ◌<◌, ◌^◌, IfOk, string_bytes};
+ghost use Rattle.std.specs.Arc.{arc_value};
+ghost use Rattle.std.specs.List.{AllByRecursion};
+ghost use Rattle.recording.specs.Answers.{items_of};
+ghost use Rattle.recording.specs.Items.{IsItem};
+ghost use Rattle.recording.specs.declared.header.Header.{Header};
+ghost use Rattle.tracker_session.specs.Editions.{AreGiven};
+ghost use Rattle.tracker_session.specs.Exercise.{HaveTotals, IsExerciseText, exercise_lines};
+ghost use Rattle.tracker_session.specs.Replay.{empty_log};
+
+use crate::counts::{Counts, counts_line, more};
+use crate::editions::Editions;
+use crate::scene_settings::scene_settings;
+use crate::taking::Run;
+use crate::totals::{Totals, more_octets, totals_line};
+use admission_log::Settings;
+use recording::{Reading, read_recording};
+use std::alloc::{AllocError, Global};
+use std::marker::Brand;
+use std::sync::Arc;
+use std::sync::ledger::{Blank, Ledger};
+use trk_base::{NoMemory, Steps};
+
+// What came of a scene that was replayed.
+#[derive(Clone, Copy)]
+struct Tally {
+    counts: Counts,
+    totals: Totals,
+}
+
+/// Draws a scene, replays its recording under the scene's settings, and tells what came of it.
+pub fn exercise(
+    alloc: Global,
+    seed: u64,
+    aircraft: u16,
+    seconds: u16,
+    late: u8,
+) -> Result<String, NoMemory>
+    ensures { IfOk result (λ s. IsExerciseText seed aircraft seconds late (string_bytes s)) }
+{
+    let octets = scene_gen::scene(alloc, seed, aircraft, seconds, late)?;
+    let reading = read_recording(alloc, &octets)?;
+    let settings = Arc::new(alloc, scene_settings(alloc)?)?;
+    let editions = Editions::new(alloc, settings.clone()?, reading.start)?;
+    let tally = take_items::<Brand>(alloc, &settings, &reading, editions, Blank::new(1))?;
+    Ok(exercise_lines(alloc, &tally.counts, &tally.totals)?)
+}
+
+// Takes the items, and counts each edition that one gives.
+fn take_items<L: Ledger>(
+    alloc: Global,
+    settings: &Settings,
+    reading: &Reading<'_>,
+    editions: Editions,
+    blank: Blank,
+) -> Result<Tally, NoMemory>
+    requires start { reading.now.start < 2 ^ 40 }
+    requires fits { AllByRecursion (IsItem Header.Second) (items_of reading.now.items.items) }
+    requires given { AreGiven settings.now (empty_log reading.now.start) editions }
+    requires name { blank.name ≡ L.name }
+    requires parts { blank.parts ≡ L.parts }
+    requires one { blank.parts ≡ 1 }
+    ensures { IfOk result (λ e. HaveTotals settings.now reading.now.start (items_of reading.now.items.items) e.counts e.totals) }
+{
+    let mut run = Run::new(alloc, reading.start, false);
+    let mut editions = editions;
+    let mut steps = Steps::<L>::new(blank);
+    let mut octets = 0;
+    let mut certificates = 0;
+    for item in &reading.items {
+        if run.take(alloc, settings, *item)? {
+            let edition = editions.advance(run.newest(), &mut steps)?;
+            run.forget();
+            octets = more_octets(octets, edition.datagrams.as_slice());
+            certificates = more(certificates, edition.certs.len() as u64);
+        }
+    }
+    Ok(Tally {
+        counts: run.counts,
+        totals: Totals {
+            tracks: editions.tracks as u64,
+            octets,
+            certificates,
+        },
+    })
+}
+
+// The two lines of an exercise.
+fn exercise_lines(alloc: Global, counts: &Counts, totals: &Totals) -> Result<String, AllocError>
+    ensures { IfOk result (λ s. string_bytes s ≡ exercise_lines counts.now totals.now) }
+{
+    let first = counts_line(alloc, counts)?;
+    let second = totals_line(alloc, totals)?;
+    format!(in alloc; "{first}{second}")
+}
