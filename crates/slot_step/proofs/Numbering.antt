@@ -34,7 +34,7 @@ module _ {T P K : Type 0} (k : Tracking T P) (o : Ordered T P K) (l : OrderLaws 
   rows_bare ts [] = refl
   rows_bare ts (p ∷ ps) = λ j. (λ i. row_bare ts p i j) ∷ rows_bare ts ps j
 
-  least_bare : (ts : List T) (ps : List P) → least k (map bare ts) ps ≡ least k ts ps
+  pub least_bare : (ts : List T) (ps : List P) → least k (map bare ts) ps ≡ least k ts ps
   least_bare ts ps = λ j. least_pairing (length-map ts bare j) (rows_bare ts ps j)
 
   with_bare : (t : T) (p : Option P) → with_plot k.update (bare t) p ≡ bare (with_plot k.update t p)
@@ -57,12 +57,12 @@ module _ {T P K : Type 0} (k : Tracking T P) (o : Ordered T P K) (l : OrderLaws 
       ∙ (λ j. updated_bare (paired_plot (entries ps (least k ts ps))) ts j ++ begun_bare (entries ps (least k ts ps)) j)
       ∙ sym (map-append bare (updated_tracks k.update (paired_plot (entries ps (least k ts ps))) ts) (begun_tracks k.begin (entries ps (least k ts ps))))
 
-  tables_bare : (ts : List T) (ps : List P) (r : ℕ) → table_at k (plot_radar o) (map bare ts) ps r ≡ map bare (table_at k (plot_radar o) ts ps r)
+  pub tables_bare : (ts : List T) (ps : List P) (r : ℕ) → table_at k (plot_radar o) (map bare ts) ps r ≡ map bare (table_at k (plot_radar o) ts ps r)
   unfolding table_at
   tables_bare ts ps zero = refl
   tables_bare ts ps (suc r) = ap (λ (us : List T). batch_step k us (of_radar (plot_radar o) r ps)) (tables_bare ts ps r) ∙ batch_bare (table_at k (plot_radar o) ts ps r) (of_radar (plot_radar o) r ps)
 
-  kept_bare : (n : ℕ) (ts : List T) → unexpired o n (map bare ts) ≡ map bare (unexpired o n ts)
+  pub kept_bare : (n : ℕ) (ts : List T) → unexpired o n (map bare ts) ≡ map bare (unexpired o n ts)
   kept_bare n [] = refl
   kept_bare n (t ∷ ts) = ap (λ (c : Bool). cond c (bare t ∷ filter (o.kept n) (map bare ts)) (filter (o.kept n) (map bare ts))) (w.kept None n t) ∙ go (o.kept n t) (kept_bare n ts)
     where
