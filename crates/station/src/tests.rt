@@ -1,7 +1,6 @@
-// The station under one radar, whose editions an engine makes.
-ghost use Rattle.std.specs.Prelude.{◌≡◌, ◌<◌, ◌≤◌, ◌+◌, ◌^◌, [], length, IfOk, IfSome};
-ghost use Rattle.std.specs.Arc.{arc_value};
-ghost use Rattle.station.specs.Tokens.{settings_of, start_of, log_with, gathered_of, IsFeederOf, IsConductorOf, IsSubscriberOf};
+// The station under one radar.
+ghost use Rattle.std.specs.Prelude.{◌≤◌, length};
+ghost use Rattle.station.specs.Tokens.{IsFeederOf, IsConductorOf};
 
 use crate::*;
 use admission_log::{AdmitError, Outcome, Settings, TickError};
