@@ -1,17 +1,15 @@
-// The station under one radar, whose editions an engine makes.
-ghost use Rattle.std.specs.Prelude.{◌≡◌, ◌<◌, ◌≤◌, ◌+◌, ◌^◌, [], length, IfOk, IfSome};
-ghost use Rattle.std.specs.Arc.{arc_value};
-ghost use Rattle.station.specs.Tokens.{settings_of, start_of, log_with, gathered_of, IsFeederOf, IsConductorOf, IsSubscriberOf};
+// The station under one radar.
+ghost use Rattle.std.specs.Prelude.{◌≤◌, length};
+ghost use Rattle.station.specs.Tokens.{IsFeederOf, IsConductorOf};
 
 use crate::*;
-use admission_log::{AdmitError, Event, Outcome, Settings, TickError};
+use admission_log::{AdmitError, Outcome, Settings, TickError};
 use asterix_frame::{Malformed, cause};
 use plot_geometry::RadarSettings;
 use std::alloc::Global;
 use std::process::Abort;
 use std::sync::{Arc, Wait};
 use std::test::Fail;
-use std::thread::{Threads, join};
 use track_life::LifeSettings;
 use trk_base::{NoMemory, Sequence};
 
@@ -147,118 +145,4 @@ fn answers_as_the_log_does(rt: HostRuntime) -> Result<(), Fail> {
     } = Station::open(rt.alloc(), settings, START, 1, 0)?;
     let mut feeder = feeders.pop().ok_or("feeder")?;
     take_turns(&rt, &station, &mut feeder, &mut conductor)
-}
-
-// Admits a hundred datagrams of no octets, and answers the indices of their events.
-fn admit_hundred<R: Wait>(
-    rt: &R,
-    alloc: Global,
-    station: &Station,
-    mut feeder: Feeder,
-) -> (Feeder, Option<Vec<u64>>)
-    requires own { IsFeederOf station.now feeder }
-    ensures own { IsFeederOf station.now result.0 }
-    ensures feed { result.0.feed ≡ feeder.feed }
-{
-    let mut indices = Vec::new(alloc);
-    for _ in 0..100 {
-        let Ok(receipt) = station.admit(rt, &mut feeder, &[]) else {
-            return (feeder, None);
-        };
-        if indices.push(receipt.at).is_err() {
-            return (feeder, None);
-        }
-    }
-    (feeder, Some(indices))
-}
-
-// What a feeder does in a thread of its own: it comes back, with the indices of its events.
-type Fed = (Feeder, Option<Vec<u64>>);
-
-fn feed_beside<R: Threads + Wait + Sync>(
-    rt: &R,
-    alloc: Global,
-    station: &Station,
-    one: Feeder,
-    other: Feeder,
-) -> (Fed, Fed)
-    requires own { IsFeederOf station.now one × IsFeederOf station.now other }
-    ensures own { IsFeederOf station.now result.0.0 × IsFeederOf station.now result.1.0 }
-    ensures feeds { (result.0.0.feed ≡ one.feed) × (result.1.0.feed ≡ other.feed) }
-{
-    join(
-        rt,
-        move || -> Fed
-            requires { IsFeederOf station.now one }
-            ensures { IsFeederOf station.entry.now result.0 × (result.0.feed ≡ one.feed) }
-        { admit_hundred(rt, alloc, station, one) },
-        move || -> Fed
-            requires { IsFeederOf station.now other }
-            ensures { IsFeederOf station.entry.now result.0 × (result.0.feed ≡ other.feed) }
-        { admit_hundred(rt, alloc, station, other) },
-    )
-}
-
-// A station of two feeds, with its tokens.
-fn two_feeds(alloc: Global) -> Result<(Station, Feeder, Feeder, Conductor), NoMemory>
-    ensures own { IfOk result (λ r. IsFeederOf r.0 r.1 × IsFeederOf r.0 r.2 × IsConductorOf r.0 r.3) }
-    ensures feeds { IfOk result (λ r. (r.0.feeds ≡ 2) × (r.1.feed ≡ 0) × (r.2.feed ≡ 1) × (r.0.readers ≡ 0)) }
-{
-    let settings = Arc::new(alloc, one_radar(alloc)?)?;
-    let Opened {
-        station,
-        mut feeders,
-        conductor,
-        ..
-    } = Station::open(alloc, settings, START, 2, 0)?;
-    let other = feeders.pop().ok_or(NoMemory)?;
-    let one = feeders.pop().ok_or(NoMemory)?;
-    Ok((station, one, other, conductor))
-}
-
-fn closed(
-    alloc: Global,
-    station: Station,
-    one: Feeder,
-    other: Feeder,
-    conductor: Conductor,
-) -> Result<Closed, NoMemory>
-    requires own { IsFeederOf station one × IsFeederOf station other × IsConductorOf station conductor }
-    requires feeds { (station.feeds ≡ 2) × (one.feed ≡ 0) × (other.feed ≡ 1) × (station.readers ≡ 0) }
-{
-    let mut feeders = Vec::with_capacity(alloc, 2)?;
-    feeders.push_reserved(one);
-    feeders.push_reserved(other);
-    Ok(station.close(feeders, conductor, Vec::new(alloc)))
-}
-
-// Whether the datagrams of a feed stand at exactly these indices.
-fn stand_at(events: &[Event], feed: u8, indices: &[u64]) -> bool {
-    let mut left = indices;
-    for (index, event) in events.iter().enumerate() {
-        if let Event::Deliver { feed: by, .. } = event {
-            if *by == feed {
-                let Some((first, rest)) = left.split_first() else {
-                    return false;
-                };
-                if *first != index as u64 {
-                    return false;
-                }
-                left = rest;
-            }
-        }
-    }
-    left.is_empty()
-}
-
-#[test]
-fn each_feeds_datagrams_stand_at_its_receipts(rt: HostRuntime) -> Result<(), Fail> {
-    let (station, one, other, conductor) = two_feeds(rt.alloc())?;
-    let ((one, first), (other, second)) = feed_beside(&rt, rt.alloc(), &station, one, other);
-    let closed = closed(rt.alloc(), station, one, other, conductor)?;
-    assert_eq!(rt; closed.events.len(), 200);
-    assert!(rt; stand_at(&closed.events, 0, &first.ok_or("memory")?));
-    assert!(rt; stand_at(&closed.events, 1, &second.ok_or("memory")?));
-    assert!(rt; closed.start == START && closed.latest.is_none());
-    Ok(())
 }

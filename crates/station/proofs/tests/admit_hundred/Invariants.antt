@@ -1,9 +1,0 @@
-use Rattle.std.proofs.Common.{◌≡◌}
-use Rattle.station.specs.Tokens.{IsFeederOf}
-use Rattle.station.proofs.tests.admit_hundred.Given as goal
-
-abbrev pub invariant-loop : goal.invariant-loop
-invariant-loop g l = record {
-  own : IsFeederOf l.station l.feeder;
-  same : l.feeder.feed ≡ l.fn.feeder.feed;
-}
