@@ -1,5 +1,5 @@
 -- What a slot's step and its parts are asked for.
-use Rattle.std.proofs.Common.{◌≡◌, ◌∙◌, sym, refl, ap, ℕ, ◌<◌, ◌^◌, ◌-◌, List, [], ◌∷◌, length, map, arith, subst}
+use Rattle.std.proofs.Common.{◌≡◌, ◌∙◌, sym, ℕ, ◌<◌, ◌^◌, ◌-◌, List, [], ◌∷◌, length, arith, subst}
 use Rattle.std.specs.Prelude.{fold}
 use Rattle.std.specs.List.Sorted.{IsStrictlySortedBy}
 use Rattle.std.specs.Cmp.{IsTotalOrder}

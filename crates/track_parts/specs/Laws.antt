@@ -1,5 +1,5 @@
 -- What folds and parts are asked for, of the tracker's.
-use Rattle.std.proofs.Common.{◌≡◌, ◌∙◌, sym, refl, ap, subst, ℕ, ◌+◌, ◌<◌, ◌≤◌, arith, List, [], ◌∷◌, length, map, Bool, true, false, inl, inr}
+use Rattle.std.proofs.Common.{◌≡◌, ◌∙◌, sym, refl, ap, subst, ℕ, ◌+◌, ◌<◌, ◌≤◌, arith, List, [], ◌∷◌, length, Bool, true, false, inl, inr}
 use Rattle.std.specs.Prelude.{◌⊎◌, ◌&&◌, ◌||◌, ◌≢◌}
 use Rattle.std.specs.List.{AllByRecursion}
 use Rattle.std.specs.List.Sorted.{IsStrictlySortedBy}
@@ -24,20 +24,20 @@ use Rattle.slot_step.specs.Interleavings.Interleaved.{neither as both_end, first
 use Rattle.slot_step.specs.Slots.{ArePlots, radar_limit, run}
 use Rattle.slot_step.specs.Slots as tables
 use Rattle.slot_step.specs.Calls.{IsFromBefore, AreFromBefore}
-use Rattle.slot_step.specs.Certificates.{Certificate, AreCertificates}
+use Rattle.slot_step.specs.Certificates.{AreCertificates}
 use Rattle.slot_step.specs.Parts.{AreBeside, AreTwoParts, DontCross, merged_by, merged_certificates}
 use Rattle.slot_step.specs.Parts as slot_parts
 use Rattle.slot_step.specs.Told.{AreTold, told}
 use Rattle.slot_step.specs.Tracker.{tracking, ordered, run_tracks}
 use Rattle.slot_step.proofs.Counted.{is_before}
 use Rattle.slot_step.proofs.Interleavings.{all_weaker, each_before}
-use Rattle.slot_step.proofs.Slotted.{currents, after, map_sorted, sorted_of_map}
+use Rattle.slot_step.proofs.Slotted.{currents, after, map_sorted}
 use Rattle.slot_step.proofs.Tables
 use Rattle.slot_step.proofs.Certifying
 use Rattle.slot_step.proofs.Tracker.{tracks_ordered}
 use Rattle.span_clusters.specs.Interleavings.{Interleaved, KeysDiffer}
 use Rattle.span_clusters.specs.Interleavings.Interleaved.{neither, first, second}
-use Rattle.span_clusters.specs.Parts.{Reaches, AreTwoInSlot, AreApart, picked_items}
+use Rattle.span_clusters.specs.Parts.{AreTwoInSlot, AreApart, picked_items}
 use Rattle.span_clusters.proofs.Numbered.{picks_mix, picks_all_items}
 use Rattle.track_parts.specs.Members.{Tracks}
 use Rattle.track_parts.specs.Tracking.{slot_of_plot, key_of_plot, with_table, next, AreCertified, IsBefore, picked, merged, SharesNone, gates, by_least, both_certs}

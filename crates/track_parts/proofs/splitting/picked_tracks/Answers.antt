@@ -1,4 +1,4 @@
-use Rattle.std.proofs.Common.{rules, ◌≡◌, ◌∙◌, ap, sym, ℕ, Bool, ◌==◌, ◌+◌, List, [], ◌∷◌, ◌++◌, append-nil, true, false, cond, drop, get_or, Vec, Global}
+use Rattle.std.proofs.Common.{rules, ◌≡◌, ◌∙◌, ap, sym, ℕ, Bool, ◌==◌, ◌+◌, List, ◌∷◌, ◌++◌, append-nil, true, false, cond, drop, get_or, Vec, Global}
 use Rattle.track_life.specs.Tracks.{TrackState}
 use Rattle.span_clusters.specs.Parts.{picked_items}
 use Rattle.track_parts.proofs.TwoLists.{snoc_append}

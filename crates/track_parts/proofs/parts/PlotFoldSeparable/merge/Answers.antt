@@ -1,4 +1,4 @@
-use Rattle.std.proofs.Common.{rules, ◌≡◌, ◌∙◌, ◌<◌, ◌^◌, ◌-◌, length}
+use Rattle.std.proofs.Common.{rules, ◌∙◌, ◌<◌, ◌^◌, ◌-◌, length}
 use Rattle.track_parts.specs.Tracking.{woven_by, by_birth}
 use Rattle.track_parts.proofs.Stepping.{woven_tables, merged_table}
 use Rattle.track_parts.proofs.parts.PlotFoldSeparable.merge.Goals as goal

@@ -1,4 +1,4 @@
-use Rattle.std.proofs.Common.{◌≡◌, ◌∙◌}
+use Rattle.std.proofs.Common.{◌∙◌}
 use Rattle.track_life.specs.Tables.{unexpired}
 use Rattle.track_parts.proofs.Stepping.{expired_is}
 use Rattle.track_parts.proofs.parts.PlotFoldSeparable.rest.Goals as goal
