@@ -1,5 +1,5 @@
 -- A record in the making: its elements by their sizes, and what one more does to them.
-use Rattle.std.proofs.Common.{◌≡◌, ◌∙◌, ap, sym, refl, subst, zero, suc, ℕ, ◌+◌, ◌-◌, ◌*◌, ◌/◌, inl, inr, ◌<◌, ◌≤◌, Bool, true, false, List, [], ◌∷◌, ◌++◌, length, take, drop, get_or, arith, append-nil, append_assoc, length-append, length-drop, length-take, add_comm}
+use Rattle.std.proofs.Common.{◌≡◌, ◌∙◌, ap, sym, refl, zero, suc, ℕ, ◌+◌, ◌-◌, ◌*◌, ◌/◌, inl, inr, ◌<◌, ◌≤◌, true, false, List, [], ◌∷◌, ◌++◌, length, take, drop, get_or, arith, append-nil, length-append, length-drop, length-take, add_comm}
 use borrow.Rule.Slice.PartMut.{put_mid}
 use Rattle.std.specs.Prelude.{◌==◌, nat_lt, slice_set}
 use Rattle.std.proofs.lemmas.Bool.{cases_lt, eq-eqb, ne_eqb}
@@ -7,7 +7,7 @@ use Rattle.std.proofs.lemmas.Bool.Decides.{nat_tests}
 use Rattle.std.proofs.lemmas.List.{drop-drop, take-append-le, drop-append-le, take-append-drop, length-set, get_or-set_other, take_at, drop_at}
 use Rattle.asterix_frame.specs.Elements.{Element, numbers, octets_of}
 use Rattle.asterix_frame.specs.DataRecords.{record_octets}
-use Rattle.asterix_frame.specs.Encoding.{has, bit, field_from, field_octet, end_from, field_length, field_of, RiseFrom, item_of, last_frn, record_of, elements_by_size, sized, total_size, IsDraft}
+use Rattle.asterix_frame.specs.Encoding.{has, field_from, end_from, field_length, field_of, RiseFrom, item_of, last_frn, record_of, elements_by_size, sized, total_size, IsDraft}
 use Rattle.asterix_frame.proofs.Prefixes.{octets-push}
 use Rattle.asterix_frame.proofs.Encodings.{has_first, has_rest, has_before, rise_on}
 

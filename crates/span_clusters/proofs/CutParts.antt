@@ -2,7 +2,6 @@
 use Rattle.std.proofs.Common.{◌≡◌, ◌≢◌, ◌∙◌, ap, sym, refl, ℕ, zero, suc, ◌+◌, ◌≤◌, List, [], ◌∷◌, length, map, take, drop, Vec, Global, Bool, true, false, arith, subst, subst₂}
 use Rattle.std.specs.Prelude.{Contains, IfOk, Result, Ok, Err, ◌&&◌, ◌||◌}
 use Rattle.std.specs.List.{AllByRecursion}
-use Rattle.std.specs.declared.cmp.Ordering.{Ordering}
 use Rattle.late_window.specs.Folding.{BeforeFirst}
 use Rattle.late_window.proofs.Groups.{SlotsRise, drop_all}
 use Rattle.span_clusters.specs.Interleavings.{EachPair}

@@ -1,5 +1,5 @@
 -- The pairs of parts of which one reaches the other.
-use Rattle.std.proofs.Common.{◌≡◌, ◌≢◌, ◌∙◌, ap, sym, refl, ℕ, zero, suc, ◌+◌, ◌<◌, ◌≤◌, List, [], ◌∷◌, ◌++◌, length, take, get_or, Vec, Global, Bool, true, false, cond, eqb, arith, subst, inl, inr}
+use Rattle.std.proofs.Common.{◌≡◌, ◌≢◌, ◌∙◌, ap, sym, refl, ℕ, zero, suc, ◌+◌, ◌<◌, ◌≤◌, List, [], ◌∷◌, ◌++◌, length, take, get_or, Vec, Global, true, cond, eqb, arith, subst, inl, inr}
 use Rattle.std.specs.Prelude.{◌⊎◌, ◌↔◌, Contains, IfOk, IsTrue, Result, Ok, Err, min, max}
 use Rattle.std.specs.List.{AllByRecursion}
 use Rattle.std.specs.BTreeSet.{BTreeSet, contains, Updates}
@@ -11,7 +11,6 @@ use Rattle.std.specs.declared.cmp.Ordering.{Ordering}
 use Rattle.std.specs.declared.cmp.Ordering.TheVariants.{Less, Equal, Greater}
 use Rattle.std.proofs.lemmas.Map.Lookups.{exact_pairs, exact_unsigned}
 use Rattle.std.proofs.Math.Nat.{min_comm, max_comm}
-use Rattle.std.proofs.lemmas.Bool.{eqb-true, eq-eqb}
 use Rattle.span_clusters.specs.Interleavings.{Interleaved, AllInterleaved, IsWithin, EachPair, KeysDiffer}
 use Rattle.span_clusters.specs.Interleavings.Interleaved.{neither, first, second}
 use Rattle.span_clusters.specs.Parts.{Part, ReachesItems, ReachesPart, Cross, all_items}

@@ -1,6 +1,6 @@
 -- The items of all parts put together, and some of them taken out again.
 use Rattle.std.proofs.Common.{◌≡◌, ◌∙◌, ap, sym, refl, ℕ, ◌<◌, List, [], ◌∷◌, ◌++◌, length, drop, get_or, arith, subst, inl, inr}
-use Rattle.std.specs.Prelude.{◌⊎◌, Contains}
+use Rattle.std.specs.Prelude.{◌⊎◌}
 use Rattle.std.specs.List.{AllByRecursion}
 use Rattle.std.specs.Cmp.{IsTotalOrder}
 use Rattle.std.specs.Ordering.{ordering_reverse}
@@ -8,7 +8,7 @@ use Rattle.std.specs.declared.cmp.Ordering.{Ordering}
 use Rattle.std.specs.declared.cmp.Ordering.TheVariants.{Less, Greater}
 use Rattle.late_window.specs.Folding.{ComesBefore, Rises}
 use Rattle.span_clusters.specs.Interleavings.{Interleaved, AllInterleaved, IsWithin, IsBelowFirst, EachPair, KeysDiffer}
-use Rattle.span_clusters.specs.Interleavings.Interleaved.{neither, first, second}
+use Rattle.span_clusters.specs.Interleavings.Interleaved.{first, second}
 use Rattle.span_clusters.specs.Parts.{Part, all_items}
 use Rattle.span_clusters.proofs.Interleavings.{swapped, alone, none_of_none, last_two_first, none_behind, in_one, in_both, all_contains, contains_first}
 use Rattle.span_clusters.proofs.PickedItems.{cut_first}

@@ -18,7 +18,7 @@ use Rattle.station.specs.declared.tokens.Feeder.{Feeder}
 use Rattle.station.specs.declared.tokens.Conductor.{Conductor}
 use Rattle.station.specs.declared.tokens.Subscriber.{Subscriber}
 use Rattle.station.specs.Added.{AllAt, is_such, stands_at, is_of_feed, is_of_conductor}
-use Rattle.station.specs.Tokens.{IsFeederOf, IsConductorOf, IsSubscriberOf, AreAllTokens}
+use Rattle.station.specs.Tokens.{AreAllTokens}
 use Rattle.station.specs.Newest.{is_publication}
 use Rattle.station.proofs.Counting.{counted}
 use Rattle.station.proofs.Indices.{all_seen}

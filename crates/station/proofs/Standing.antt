@@ -1,11 +1,11 @@
 -- What the threads share stands for its log after one more event.
-use Rattle.std.proofs.Common.{◌≡◌, ◌∙◌, ap, sym, subst, ℕ, false, ◌+◌, ◌≤◌, List, [], ◌∷◌, ◌++◌, length, refl, append-nil, arith}
+use Rattle.std.proofs.Common.{◌≡◌, ◌∙◌, ap, sym, subst, ℕ, false, ◌+◌, ◌≤◌, List, [], ◌∷◌, ◌++◌, length, append-nil, arith}
 use Rattle.std.specs.Prelude.{Option, Some, None, Result, Ok, Err, IfOk, OnOk, OnErr}
 use Rattle.std.proofs.lemmas.List.{take-append-le}
 use Rattle.admission_log.specs.declared.settings.Settings.{Settings}
 use Rattle.admission_log.specs.declared.events.Event.{Event}
 use Rattle.admission_log.specs.declared.events.Event.TheVariants.{Deliver, Tick, Publish, Bias}
-use Rattle.admission_log.specs.Histories.{History, appended, first, published_in, publications_of, published_of}
+use Rattle.admission_log.specs.Histories.{History, appended, first, publications_of, published_of}
 use Rattle.admission_log.specs.declared.events.Receipt.{Receipt}
 use Rattle.admission_log.specs.Messages.{Said}
 use Rattle.admission_log.specs.Deliveries.{DeliversOf}
@@ -13,7 +13,7 @@ use Rattle.admission_log.specs.Legality.{IsLegal}
 use Rattle.admission_log.proofs.Growing.{events-appended, publications-appended, published-appended}
 use Rattle.edition_form.specs.declared.edition.Edition.{Edition}
 use Rattle.edition_form.specs.Editions.{IsEdition}
-use Rattle.station.specs.Newest.{is_publication, last_cut, IsNewest, IsNewestOf, StandsFor}
+use Rattle.station.specs.Newest.{is_publication, last_cut, IsNewest, StandsFor}
 
 pub plain_publications : (log : History) (e : Event) → is_publication e ≡ false → publications_of (appended log e) ≡ publications_of log
 plain_publications log (Deliver feed admitted told other) h = publications-appended log (Deliver feed admitted told other) ∙ append-nil (publications_of log)

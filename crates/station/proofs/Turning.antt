@@ -1,6 +1,6 @@
 -- What a turn found and left.
-use Rattle.std.proofs.Common.{◌≡◌, ◌∙◌, ap, sym, subst, refl, ℕ, ◌+◌, ◌<◌, ◌≤◌, ◌==◌, Bool, true, false, List, [], ◌∷◌, ◌++◌, length, append-nil, append_assoc, length-append, length-drop, length-take-le, fold, max, arith, eqb, eq-eqb, ne_eqb}
-use Rattle.std.specs.Prelude.{count_by, if◌then◌else◌, take, drop, Result, Ok, Err, IfOk, OnOk, OnErr}
+use Rattle.std.proofs.Common.{◌≡◌, ◌∙◌, ap, sym, subst, refl, ℕ, ◌+◌, ◌<◌, ◌≤◌, ◌==◌, Bool, true, false, List, [], ◌∷◌, ◌++◌, length, append-nil, append_assoc, length-append, length-drop, length-take-le, fold, max, arith, eq-eqb, ne_eqb}
+use Rattle.std.specs.Prelude.{if◌then◌else◌, take, drop, Result, Ok, Err, IfOk, OnOk, OnErr}
 use Rattle.std.proofs.lemmas.List.{take-append-le, take-append-drop}
 use Rattle.turn_lock.specs.Lists.{Begins}
 use Rattle.turn_lock.specs.Steps.{Adds, new_index}
@@ -10,7 +10,6 @@ use Rattle.admission_log.specs.declared.events.Event.TheVariants.{Tick, Publish}
 use Rattle.admission_log.specs.declared.events.Receipt.{Receipt}
 use Rattle.admission_log.specs.declared.events.TickError.{TickError}
 use Rattle.admission_log.specs.declared.events.TickError.TheVariants as errors
-use Rattle.admission_log.specs.declared.settings.Settings.{Settings}
 use Rattle.admission_log.specs.Messages.{Said}
 use Rattle.admission_log.specs.Deliveries.{DeliversOf}
 use Rattle.admission_log.specs.Histories.{History, appended, first, last_of, publications_of, published_of, cut_of}
@@ -22,7 +21,7 @@ use Rattle.station.specs.Shared.{base_of, events_of}
 use Rattle.edition_form.specs.declared.edition.Edition.{Edition}
 use Rattle.edition_form.specs.Editions.{IsEdition}
 use Rattle.station.specs.declared.tokens.Conductor.{Conductor}
-use Rattle.station.specs.Added.{AllAt, is_of_feed, is_of_conductor}
+use Rattle.station.specs.Added.{AllAt, is_of_feed}
 use Rattle.station.specs.Tokens.{settings_of, log_with, gathered_of}
 use Rattle.station.specs.Turns.{AreFound, AreConducted, having_seen, having_added, OnlySaw, Ticks, IsOld, Gathers, MayPublish, Publishes}
 use Rattle.station.proofs.Indices.{all_seen, all_added}

@@ -1,5 +1,5 @@
 -- A station's tokens, and what they know.
-use Rattle.std.specs.Prelude.{◌≡◌, ◌+◌, ◌<◌, ◌≤◌, ℕ, All, Any, List, [], take, length, Some}
+use Rattle.std.specs.Prelude.{◌≡◌, ◌+◌, ◌<◌, ◌≤◌, ℕ, All, Any, List, [], take, length}
 use Rattle.turn_lock.specs.Turns.{Token, IsTurnOf, newcomer}
 use Rattle.admission_log.specs.declared.settings.Settings.{Settings}
 use Rattle.admission_log.specs.declared.events.Event.{Event}

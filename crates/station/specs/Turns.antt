@@ -1,7 +1,5 @@
 -- What each turn of a token finds and answers.
 use Rattle.std.specs.Prelude.{◌≡◌, ◌≤◌, ◌<◌, ◌+◌, ℕ, List, [], ◌∷◌, ◌++◌, length, Option, Some}
-use Rattle.std.specs.Option.{option_map}
-use Rattle.std.specs.Arc.{arc_value}
 use Rattle.asterix_frame.specs.Datagrams.{Content}
 use Rattle.turn_lock.specs.Lists.{Begins}
 use Rattle.turn_lock.specs.Turns.{Token}

@@ -9,7 +9,6 @@ use Rattle.trk_base.specs.KeyOrder.{key_cmp_total}
 use Rattle.track_life.specs.declared.settings.LifeSettings.{LifeSettings}
 use Rattle.track_life.specs.Tracks.{TrackState}
 use Rattle.track_life.specs.Tables.{IsTable, unexpired}
-use Rattle.slot_step.specs.Parts.{AreBeside}
 use Rattle.slot_step.specs.Parts as tables
 use Rattle.slot_step.specs.Tracker.{tracking, ordered, run_tracks}
 use Rattle.slot_step.proofs.Slotted.{map_sorted}

@@ -21,7 +21,7 @@ use Rattle.late_window.specs.Folding.{ComesBefore, Rises, InSlot}
 use Rattle.slot_step.specs.declared.certs.KeyedCert.{KeyedCert}
 use Rattle.slot_step.specs.Interleavings as slots
 use Rattle.slot_step.specs.Interleavings.Interleaved.{neither as both_end, first as from_one, second as from_other}
-use Rattle.slot_step.specs.Slots.{ArePlots, radar_limit, run}
+use Rattle.slot_step.specs.Slots.{radar_limit, run}
 use Rattle.slot_step.specs.Slots as tables
 use Rattle.slot_step.specs.Calls.{IsFromBefore, AreFromBefore}
 use Rattle.slot_step.specs.Certificates.{AreCertificates}

@@ -1,7 +1,6 @@
 -- What the rule says of a seat is carried from one course of the lock to the next.
 use Rattle.std.proofs.Common.{◌≡◌, ℕ, ◌+◌, ◌<◌, ◌≤◌, Bool, true, List, [], ◌++◌, length, sym, refl, ap, ◌∙◌, subst, arith, length-append, append-nil}
 use Rattle.std.specs.Prelude.{count_by}
-use Rattle.atomic_table.specs.Table.{keeps}
 use Rattle.turn_lock.specs.declared.rule.View.{View}
 use Rattle.turn_lock.specs.declared.rule.Stage.{Stage}
 use Rattle.turn_lock.specs.Lists.{is_member, Begins}

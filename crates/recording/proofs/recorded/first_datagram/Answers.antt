@@ -1,4 +1,4 @@
-use Rattle.std.proofs.Common.{arith, rules, ◌+◌, ◌*◌, ◌<◌, get_or, length, ap}
+use Rattle.std.proofs.Common.{arith, rules, ◌+◌, ◌*◌, ◌<◌, get_or, length}
 use Rattle.recording.proofs.ItemOctets.{datagram_cut}
 use Rattle.recording.proofs.recorded.first_datagram.Goals as goal
 

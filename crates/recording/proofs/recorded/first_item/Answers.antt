@@ -1,4 +1,4 @@
-use Rattle.std.proofs.Common.{arith, rules, sym, subst, ◌≡◌, ◌∙◌, ◌∷◌, drop}
+use Rattle.std.proofs.Common.{rules, sym, subst, ◌≡◌, ◌∙◌, ◌∷◌}
 use Rattle.std.proofs.lemmas.List.{take_rest}
 use Rattle.std.proofs.lemmas.Result.{IfOk-weaker, IfErr-weaker}
 use Rattle.recording.specs.Items.{ItemsEnd}

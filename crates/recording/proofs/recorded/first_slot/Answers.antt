@@ -1,6 +1,5 @@
 use Rattle.std.proofs.Common.{arith, rules, inr, ◌≡◌, ◌∷◌, ◌<◌, length}
 use Rattle.std.proofs.lemmas.List.{take_rest}
-use Rattle.recording.specs.Biases.{slot_limit}
 use Rattle.recording.proofs.BiasOctets.{slot_truncated, slot_stops}
 use Rattle.recording.proofs.Contents.{after_first, first_octet}
 use Rattle.recording.proofs.recorded.first_slot.Goals as goal

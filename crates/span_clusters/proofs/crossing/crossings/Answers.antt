@@ -1,5 +1,5 @@
-use Rattle.std.proofs.Common.{◌≡◌, ◌∙◌, ◌+◌, ◌<◌, ◌≤◌, ◌++◌, ◌∷◌, [], length, rules, take, subst}
-use Rattle.span_clusters.proofs.FoundPairs.{adds_up, some_more, take_more, take_whole, SomeReach, all_told}
+use Rattle.std.proofs.Common.{◌≡◌, ◌∙◌, ◌+◌, ◌<◌, ◌≤◌, ◌++◌, ◌∷◌, [], length, rules, take}
+use Rattle.span_clusters.proofs.FoundPairs.{adds_up, some_more, take_more, take_whole, all_told}
 use Rattle.span_clusters.proofs.crossing.crossings.Goals as goal
 
 pub loop-one-preserved : goal.loop-one-preserved

@@ -1,4 +1,4 @@
-use Rattle.std.proofs.Common.{◌≡◌, ◌∙◌, ◌+◌, ◌++◌, ◌∷◌, [], ap, arith, length, rules}
+use Rattle.std.proofs.Common.{◌≡◌, ◌∙◌, ◌+◌, ◌++◌, ◌∷◌, [], ap, arith, length}
 use Rattle.late_window.specs.Folding.{slots}
 use Rattle.span_clusters.specs.Jobs.{filled_slots}
 use Rattle.span_clusters.proofs.FewSlots.{filled_more}

@@ -1,5 +1,4 @@
-use Rattle.std.proofs.Common.{eqb, rules}
-use Rattle.std.specs.List.{AllByRecursion}
+use Rattle.std.proofs.Common.{eqb}
 use Rattle.late_window.proofs.Groups.{slots_rise, weaker}
 use Rattle.span_clusters.specs.Parts.{picked_items}
 use Rattle.span_clusters.proofs.PickedItems.{picked_rise, all_picked, before_each, first_of}

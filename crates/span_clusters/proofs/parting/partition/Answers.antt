@@ -1,4 +1,4 @@
-use Rattle.std.proofs.Common.{◌≡◌, ◌∙◌, ap, length, map, take, drop, rules}
+use Rattle.std.proofs.Common.{◌≡◌, ◌∙◌, length, map, take, drop, rules}
 use Rattle.late_window.proofs.Groups.{slots_rise}
 use Rattle.span_clusters.specs.Parts.{numbered}
 use Rattle.span_clusters.specs.Jobs.{AreUsed}

@@ -1,5 +1,4 @@
-use Rattle.std.proofs.Common.{sym, subst, List, ℕ, [], ◌∷◌}
-use Rattle.asterix_frame.specs.Encoding.{IsDraft}
+use Rattle.std.proofs.Common.{ℕ, [], ◌∷◌}
 use Rattle.asterix_frame.proofs.Drafts.{draft_none}
 use Rattle.asterix_frame.proofs.record_writer.RecordWriter.new.Goals as goal
 

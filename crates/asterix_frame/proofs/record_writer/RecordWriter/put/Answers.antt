@@ -1,6 +1,6 @@
-use Rattle.std.proofs.Common.{◌≡◌, ◌∙◌, ap, sym, subst, ◌++◌, ◌-◌, [], ◌∷◌, length, drop, slice_set}
+use Rattle.std.proofs.Common.{◌≡◌, ◌∙◌, ap, sym, ◌++◌, ◌-◌, [], ◌∷◌, length, drop, slice_set}
 use Rattle.asterix_frame.specs.Elements.{octets_of}
-use Rattle.asterix_frame.specs.Encoding.{last_frn, IsDraft, elements_by_size}
+use Rattle.asterix_frame.specs.Encoding.{last_frn, elements_by_size}
 use Rattle.asterix_frame.proofs.Drafts.{IsBegun, begun_first, begun_more, none_of, some_of, draft_put, items_put, last_put, size_put}
 use Rattle.asterix_frame.proofs.record_writer.RecordWriter.put.Goals as goal
 use Rattle.asterix_frame.proofs.record_writer.RecordWriter.put.Goals.{then-is_empty+in_ok-extend_from_slice, else-is_empty}

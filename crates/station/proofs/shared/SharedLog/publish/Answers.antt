@@ -1,4 +1,4 @@
-use Rattle.std.proofs.Common.{◌≡◌, ◌∙◌, ◌≤◌, ◌+◌, ap, sym, subst, length, Some}
+use Rattle.std.proofs.Common.{◌≡◌, ◌∙◌, ◌≤◌, ◌+◌, sym, subst, length, Some}
 use Rattle.std.specs.Arc.{arc_value}
 use Rattle.admission_log.specs.declared.events.Event.TheVariants as events
 use Rattle.admission_log.specs.Histories.{History, appended, first, publications_of, published_of}

@@ -1,16 +1,13 @@
-use Rattle.std.proofs.Common.{rules, ◌≡◌, ◌∙◌, ◌+◌, ◌<◌, ◌≤◌, ap, sym, subst, List, [], ◌∷◌, ◌++◌, ℕ, map, length, arith}
+use Rattle.std.proofs.Common.{◌≡◌, ◌∙◌, ◌+◌, ◌<◌, ◌≤◌, ap, sym, subst, List, [], ◌∷◌, ◌++◌, ℕ, map, length, arith}
 use Rattle.std.specs.Prelude.{count_by}
 use Rattle.std.specs.List.{All, Any}
-use Rattle.std.proofs.lemmas.List.Elements.{All-from_recursion, recursion_from_All}
 use Rattle.turn_lock.specs.Lists.{Begins}
 use Rattle.turn_lock.specs.Turns.{Token, IsTurnOf, times_made}
-use Rattle.turn_lock.proofs.Lists.{each_right}
 use Rattle.admission_log.specs.declared.events.Event.{Event}
 use Rattle.station.specs.declared.shared.Base.{Base}
 use Rattle.station.specs.declared.tokens.Feeder.{Feeder}
 use Rattle.station.specs.declared.tokens.Subscriber.{Subscriber}
 use Rattle.station.specs.Newest.{is_publication}
-use Rattle.station.proofs.Counting.{counted}
 use Rattle.station.proofs.Ending.{turns_of, all_own, each_there, feeders_begin, conductor_begins, subscribers_begin, fed, fed_all, conducted, conducted_all, subscribers_told}
 use Rattle.station.proofs.station.Station.close.Goals as goal
 

@@ -1,5 +1,5 @@
 use Rattle.std.proofs.Common.{rules, ◌≡◌, ◌∙◌, ◌+◌, ◌<◌, ◌≤◌, ap, sym, subst, true≢false, List, [], ◌∷◌, ◌++◌, ℕ, map, length, take, arith}
-use Rattle.std.specs.Prelude.{IsSomeAnd, slice_get, vec_len}
+use Rattle.std.specs.Prelude.{vec_len}
 use Rattle.std.specs.List.{All}
 use Rattle.std.specs.Vec.Iter.{into_iter_items, into_iter_len}
 use Rattle.std.proofs.lemmas.List.Elements.{All-rest}
@@ -8,7 +8,7 @@ use Rattle.admission_log.specs.declared.events.Event.{Event}
 use Rattle.station.specs.declared.shared.Base.{Base}
 use Rattle.station.specs.declared.tokens.Feeder.{Feeder}
 use Rattle.station.specs.Added.{AllAt, is_of_conductor}
-use Rattle.station.specs.Tokens.{HasAddedNone, AreLeft, IsNewFeeder, IsNewSubscriber}
+use Rattle.station.specs.Tokens.{HasAddedNone}
 use Rattle.station.proofs.Dealing.{all_newcomers, all_behind, tail_at, head_is, new_feeders, new_subscribers, all_tokens}
 use Rattle.station.proofs.station.Station.open.Goals as goal
 

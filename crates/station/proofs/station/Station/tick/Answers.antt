@@ -1,8 +1,8 @@
-use Rattle.std.proofs.Common.{rules, ◌≡◌, ◌<◌, ◌≤◌, ◌++◌, ◌∷◌, [], ℕ, ap, refl, length, arith}
+use Rattle.std.proofs.Common.{rules, ◌≡◌, ◌<◌, ◌≤◌, ◌++◌, ◌∷◌, [], ℕ, refl, length, arith}
 use Rattle.std.specs.Prelude.{Err, IfOk, OnOk, OnErr}
 use Rattle.admission_log.specs.declared.events.Event.TheVariants as events
 use Rattle.admission_log.specs.declared.events.TickError.TheVariants as errors
-use Rattle.admission_log.specs.Histories.{History, appended, last_of}
+use Rattle.admission_log.specs.Histories.{appended, last_of}
 use Rattle.admission_log.specs.Legality.{IsLegal}
 use Rattle.station.specs.Added.{is_of_conductor}
 use Rattle.station.specs.Shared.{events_of}

@@ -1,8 +1,7 @@
-use Rattle.std.proofs.Common.{rules, ◌≡◌, ◌∙◌, ◌+◌, ◌≤◌, ap, sym, refl, List, [], ◌∷◌, ◌++◌, ℕ, map, length, append_assoc, vec_len, vec_capacity, subst, arith}
-use Rattle.std.specs.List.{All, range_with_len}
+use Rattle.std.proofs.Common.{rules, ◌≡◌, ◌∙◌, ◌+◌, ◌≤◌, ap, sym, [], ◌∷◌, ◌++◌, ℕ, map, length, append_assoc, arith}
 use Rattle.std.specs.Vec.Iter.{into_iter_items, into_iter_len}
 use Rattle.std.proofs.lemmas.List.{map-append}
-use Rattle.std.proofs.lemmas.List.Elements.{All-rest, All-push}
+use Rattle.std.proofs.lemmas.List.Elements.{All-rest}
 use Rattle.station.specs.declared.tokens.Feeder.{Feeder}
 use Rattle.station.specs.Tokens.{HasAddedNone}
 use Rattle.station.proofs.Dealing.{counted_on}
