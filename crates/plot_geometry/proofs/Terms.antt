@@ -41,7 +41,13 @@ pub is_max : {r x y : ℤ} {m : ℕ} → r ≡ int_max x (pos 0) → Is x y m �
 is_max {y = y} e h = record { same = e ∙ ap (λ z. int_max z (pos 0)) h.same; within = omega (arith, max_zero y, not_below_zero_le y, h.within) }
 
 -- a sine and a cosine, through their bits
-pub norm_through : (s c : ℤ) → norm s c ≤ 2 ^ 81 → ◌≡◌ {A = ℤ × ℤ} (cast_signed w128 (cast_unsigned w128 s), cast_signed w128 (cast_unsigned w128 c)) (s, c)
+pub norm_through : (s c : ℤ) → norm s c ≤ 2 ^ 81 → ◌≡◌ {A = ℤ × ℤ} (cast_signed w64 (cast_unsigned w64 s), cast_signed w64 (cast_unsigned w64 c)) (s, c)
 norm_through s c h =
+    let sides = side (unsigned_abs s) (unsigned_abs c) h in
+    λ i. ((is_cast64 (is_var {x = s} (2 ^ 41) sides.0) (lit< tt)).same i, (is_cast64 (is_var {x = c} (2 ^ 41) sides.1) (lit< tt)).same i)
+
+-- and through those of 128 bits
+pub wide_through : (s c : ℤ) → norm s c ≤ 2 ^ 81 → ◌≡◌ {A = ℤ × ℤ} (cast_signed w128 (cast_unsigned w128 s), cast_signed w128 (cast_unsigned w128 c)) (s, c)
+wide_through s c h =
     let sides = side (unsigned_abs s) (unsigned_abs c) h in
     λ i. ((var s (2 ^ 41) sides.0 tt).same i, (var c (2 ^ 41) sides.1 tt).same i)

@@ -6,7 +6,7 @@ use trk_base::round_div;
 
 // Cosine and sine of the angle of each bit k, which is 2 ^ k in 360/65,536 degrees, in 2 ^ -40.
 // Each entry below the last two is that of half the angle of the entry after it.
-const HALF_ANGLES: [(i64, i64); 16] = [
+static HALF_ANGLES: [(i64, i64); 16] = [
     (1_099_511_622_722, 105_414_357),
     (1_099_511_607_562, 210_828_713),
     (1_099_511_546_923, 421_657_418),
@@ -35,7 +35,7 @@ pub(crate) fn half_angle(k: usize) -> (i64, i64)
 }
 
 // A sine and a cosine, turned on by the angle of bit k.
-fn turned(k: usize, s: i128, c: i128) -> (i128, i128)
+fn turned(k: usize, s: i64, c: i64) -> (i64, i64)
     requires index { k < 16 }
     requires small { norm s c ≤ 2 ^ 81 }
     ensures value { result ≡ turned (half_angle k) (s, c) }
@@ -44,9 +44,11 @@ fn turned(k: usize, s: i128, c: i128) -> (i128, i128)
     let (cosine, sine) = half_angle(k);
     let cosine = cosine as i128;
     let sine = sine as i128;
+    let s = s as i128;
+    let c = c as i128;
     (
-        round_div(s * cosine + c * sine, 1 << 40),
-        round_div(c * cosine - s * sine, 1 << 40),
+        round_div(s * cosine + c * sine, 1 << 40) as i64,
+        round_div(c * cosine - s * sine, 1 << 40) as i64,
     )
 }
 
@@ -56,14 +58,14 @@ pub(crate) fn sine_cosine(angle: u16) -> (i128, i128)
     ensures sine { unsigned_abs result.0 ≤ 2 ^ 41 }
     ensures cosine { unsigned_abs result.1 ≤ 2 ^ 41 }
 {
-    let mut s: i128 = 0;
-    let mut c: i128 = 1 << 40;
+    let mut s: i64 = 0;
+    let mut c: i64 = 1 << 40;
     for k in (0..16).rev() {
         if angle >> k & 1 == 1 {
             (s, c) = turned(k, s, c);
         }
     }
-    (s, c)
+    (s as i128, c as i128)
 }
 
 /// A length, times a sine or a cosine in units of 2^-40.

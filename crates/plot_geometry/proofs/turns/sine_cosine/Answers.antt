@@ -1,8 +1,10 @@
-use Rattle.std.proofs.Common.{◌≡◌, ◌∙◌, ap, sym, subst, arith, ◌+◌, ◌*◌, ◌^◌, ◌-◌, ◌≤◌, ℤ}
-use Rattle.std.specs.Int.{w128, cast_signed}
-use Rattle.plot_geometry.specs.Turns.{turns, norm}
+use Rattle.std.proofs.Common.{◌≡◌, ◌∙◌, ap, sym, subst, arith, ◌+◌, ◌*◌, ◌^◌, ◌-◌, ◌≤◌, ℕ, ℤ}
+use Rattle.std.specs.Prelude.{unsigned_abs}
+use Rattle.std.specs.Int.{w64, w128, cast_signed, cast_unsigned}
+use Rattle.plot_geometry.specs.Turns.{turns, sine_cosine, norm}
 use Rattle.plot_geometry.proofs.TurnLaws.{turns_on, turns_past, turns_done, turns_begin}
-use Rattle.plot_geometry.proofs.Terms.{norm_through}
+use Rattle.plot_geometry.proofs.Lengths.{side}
+use Rattle.plot_geometry.proofs.Terms.{norm_through, wide_through}
 use Rattle.plot_geometry.proofs.turns.sine_cosine.Goals as goal
 
 pub loop-k-init : goal.loop-k-init
@@ -24,7 +26,23 @@ loop-k-preserved c = record {
   norm = omega (arith, c.loop-k.invariant.norm, c.loop-k.auto.k, c.loop-k-test.true);
 }
 
+-- what the loop leaves
+left : (angle k : ℕ) (s c : ℤ) → 0 ≡ k → turns k angle (s, c) ≡ sine_cosine angle → norm s c ≤ 2 ^ 80 + (16 - k) * 2 ^ 44 → ◌≡◌ {A = ℤ × ℤ} (cast_signed w128 (cast_unsigned w128 s), cast_signed w128 (cast_unsigned w128 c)) (sine_cosine angle)
+left angle k s c done same near = wide_through s c (omega arith) ∙ sym (turns_done angle (s, c)) ∙ ap (λ n. turns n angle (s, c)) done ∙ same
+
 pub returns-clause-value : goal.returns-clause-value
 returns-clause-value c =
     let done : 0 ≡ c.loop-k.k = omega (arith, c.loop-k-test.false) in
-    sym (turns_done c.args.angle _) ∙ ap (λ n. turns n c.args.angle (cast_signed w128 c.loop-k.s-bits, cast_signed w128 c.loop-k.c-bits)) done ∙ c.loop-k.invariant.turned
+    left c.args.angle c.loop-k.k (cast_signed w64 c.loop-k.s-bits) (cast_signed w64 c.loop-k.c-bits) done c.loop-k.invariant.turned c.loop-k.invariant.norm
+
+-- and how long that is
+sides_left : (k : ℕ) (s c : ℤ) → norm s c ≤ 2 ^ 80 + (16 - k) * 2 ^ 44 → (unsigned_abs (cast_signed w128 (cast_unsigned w128 s)) ≤ 2 ^ 41) × (unsigned_abs (cast_signed w128 (cast_unsigned w128 c)) ≤ 2 ^ 41)
+sides_left k s c near =
+    let small : norm s c ≤ 2 ^ 81 = omega (arith, near) in
+    subst (λ (p : ℤ × ℤ). (unsigned_abs p.0 ≤ 2 ^ 41) × (unsigned_abs p.1 ≤ 2 ^ 41)) (sym (wide_through s c small)) (side (unsigned_abs s) (unsigned_abs c) small)
+
+pub returns-clause-sine : goal.returns-clause-sine
+returns-clause-sine c = (sides_left c.loop-k.k (cast_signed w64 c.loop-k.s-bits) (cast_signed w64 c.loop-k.c-bits) c.loop-k.invariant.norm).0
+
+pub returns-clause-cosine : goal.returns-clause-cosine
+returns-clause-cosine c = (sides_left c.loop-k.k (cast_signed w64 c.loop-k.s-bits) (cast_signed w64 c.loop-k.c-bits) c.loop-k.invariant.norm).1

@@ -1,8 +1,9 @@
-use Rattle.std.proofs.Common.{◌≡◌, ◌∙◌, ap, subst, sym, lit<, ℤ, pos, ◌≤◌, ◌^◌, ◌+◌, ◌+ℤ◌, ◌-ℤ◌, ◌*ℤ◌}
+use Rattle.std.proofs.Common.{◌≡◌, ◌∙◌, ap, arith, subst, sym, lit<, ℕ, ℤ, pos, ◌<◌, ◌≤◌, ◌^◌, ◌+◌, ◌+ℤ◌, ◌-ℤ◌, ◌*ℤ◌}
 use Rattle.std.specs.Prelude.{unsigned_abs, FitsSigned}
 use Rattle.std.specs.Int.{w64, w128, cast_signed, cast_unsigned}
+use Rattle.std.proofs.lemmas.Int.{fits_signed_from_abs}
 use Rattle.trk_base.specs.Numbers.{round}
-use Rattle.trk_base.proofs.Sizes.{Is, var, wide, times, plus, minus, rounded, is_mul, is_add, is_sub, fits, below}
+use Rattle.trk_base.proofs.Sizes.{Is, wide, times, plus, minus, rounded, is_mul, is_add, is_sub, is_cast64, fits, below}
 use Rattle.plot_geometry.specs.Turns.{turned, norm}
 use Rattle.plot_geometry.proofs.Lengths.{side, turn_norm}
 use Rattle.plot_geometry.proofs.turns.turned.Goals as goal
@@ -13,31 +14,50 @@ bits z = cast_signed w128 (cast_unsigned w128 z)
 abbrev long : ℤ → ℤ
 long z = bits (cast_signed w64 (cast_unsigned w64 z))
 
+-- a rounded number of 128 bits, as one of 64
+abbrev short : ℤ → ℤ
+short z = cast_signed w64 (cast_unsigned w64 (bits z))
+
 -- sine or cosine
 own : (s c : ℤ) → norm s c ≤ 2 ^ 81 → (unsigned_abs s ≤ 2 ^ 41) × (unsigned_abs c ≤ 2 ^ 41)
 own s c h = side (unsigned_abs s) (unsigned_abs c) h
 
-product : (z p : ℤ) → unsigned_abs z ≤ 2 ^ 41 → unsigned_abs p ≤ 2 ^ 40 → Is (bits (bits z *ℤ long p)) (z *ℤ p) (2 ^ 81)
-product z p h k = times (var z (2 ^ 41) h tt) (wide p (2 ^ 40) k tt tt) tt
+product : (z p : ℤ) → unsigned_abs z ≤ 2 ^ 41 → unsigned_abs p ≤ 2 ^ 40 → Is (bits (long z *ℤ long p)) (z *ℤ p) (2 ^ 81)
+product z p h k = times (wide z (2 ^ 41) h tt tt) (wide p (2 ^ 40) k tt tt) tt
 
-product_fits : (z p : ℤ) → unsigned_abs z ≤ 2 ^ 41 → unsigned_abs p ≤ 2 ^ 40 → FitsSigned w128 (bits z *ℤ long p)
-product_fits z p h k = fits (is_mul (var z (2 ^ 41) h tt) (wide p (2 ^ 40) k tt tt)) (lit< tt)
+product_fits : (z p : ℤ) → unsigned_abs z ≤ 2 ^ 41 → unsigned_abs p ≤ 2 ^ 40 → FitsSigned w128 (long z *ℤ long p)
+product_fits z p h k = fits (is_mul (wide z (2 ^ 41) h tt tt) (wide p (2 ^ 40) k tt tt)) (lit< tt)
 
 -- the sums for the sine and for the cosine, of a cosine p and a sine q
-sine_sum : (s c p q : ℤ) → norm s c ≤ 2 ^ 81 → unsigned_abs p ≤ 2 ^ 40 → unsigned_abs q ≤ 2 ^ 40 → Is (bits (bits (bits s *ℤ long p) +ℤ bits (bits c *ℤ long q))) (s *ℤ p +ℤ c *ℤ q) (2 ^ 82)
+sine_sum : (s c p q : ℤ) → norm s c ≤ 2 ^ 81 → unsigned_abs p ≤ 2 ^ 40 → unsigned_abs q ≤ 2 ^ 40 → Is (bits (bits (long s *ℤ long p) +ℤ bits (long c *ℤ long q))) (s *ℤ p +ℤ c *ℤ q) (2 ^ 82)
 sine_sum s c p q h k l = let z = own s c h in plus (product s p z.0 k) (product c q z.1 l) tt
 
-cosine_sum : (s c p q : ℤ) → norm s c ≤ 2 ^ 81 → unsigned_abs p ≤ 2 ^ 40 → unsigned_abs q ≤ 2 ^ 40 → Is (bits (bits (bits c *ℤ long p) -ℤ bits (bits s *ℤ long q))) (c *ℤ p -ℤ s *ℤ q) (2 ^ 82)
+cosine_sum : (s c p q : ℤ) → norm s c ≤ 2 ^ 81 → unsigned_abs p ≤ 2 ^ 40 → unsigned_abs q ≤ 2 ^ 40 → Is (bits (bits (long c *ℤ long p) -ℤ bits (long s *ℤ long q))) (c *ℤ p -ℤ s *ℤ q) (2 ^ 82)
 cosine_sum s c p q h k l = let z = own s c h in minus (product c p z.1 k) (product s q z.0 l) tt
 
 -- both, rounded
 pair_is : (s c : ℤ) (by : ℤ × ℤ) {x y : ℤ} → norm s c ≤ 2 ^ 81 → unsigned_abs by.0 ≤ 2 ^ 40 → unsigned_abs by.1 ≤ 2 ^ 40
-    → x ≡ round (bits (bits (bits s *ℤ long by.0) +ℤ bits (bits c *ℤ long by.1))) (pos (2 ^ 40)) → y ≡ round (bits (bits (bits c *ℤ long by.0) -ℤ bits (bits s *ℤ long by.1))) (pos (2 ^ 40))
-    → ◌≡◌ {A = ℤ × ℤ} (bits x, bits y) (turned by (s, c))
+    → x ≡ round (bits (bits (long s *ℤ long by.0) +ℤ bits (long c *ℤ long by.1))) (pos (2 ^ 40)) → y ≡ round (bits (bits (long c *ℤ long by.0) -ℤ bits (long s *ℤ long by.1))) (pos (2 ^ 40))
+    → ◌≡◌ {A = ℤ × ℤ} (short x, short y) (turned by (s, c))
 pair_is s c by h k l x y =
-    let first = (rounded (2 ^ 40) x (sine_sum s c by.0 by.1 h k l) tt tt).same in
-    let second = (rounded (2 ^ 40) y (cosine_sum s c by.0 by.1 h k l) tt tt).same in
+    let first = (is_cast64 (rounded (2 ^ 40) x (sine_sum s c by.0 by.1 h k l) tt tt) (lit< tt)).same in
+    let second = (is_cast64 (rounded (2 ^ 40) y (cosine_sum s c by.0 by.1 h k l) tt tt) (lit< tt)).same in
     λ i. (first i, second i)
+
+fits64 : {x y : ℤ} {m : ℕ} → Is x y m → m < 2 ^ 63 → FitsSigned w64 x
+fits64 {x} {y} {m} h small = fits_signed_from_abs w64 x (rw h.same (omega (arith, h.within)))
+
+pub overflow_cast-result : goal.overflow_cast-result
+overflow_cast-result c =
+    fits64
+    (rounded (2 ^ 40) c.round_div.ensures (sine_sum c.args.s c.args.c c.half_angle-cosine.result.0 c.half_angle-cosine.result.1 c.requires.small c.half_angle-cosine.ensures.cosine c.half_angle-cosine.ensures.sine) tt tt)
+    (lit< tt)
+
+pub overflow_cast-result-2 : goal.overflow_cast-result-2
+overflow_cast-result-2 c =
+    fits64
+    (rounded (2 ^ 40) c.round_div-2.ensures (cosine_sum c.args.s c.args.c c.half_angle-cosine.result.0 c.half_angle-cosine.result.1 c.requires.small c.half_angle-cosine.ensures.cosine c.half_angle-cosine.ensures.sine) tt tt)
+    (lit< tt)
 
 pub overflow_mul-s : goal.overflow_mul-s
 overflow_mul-s c = product_fits c.args.s c.half_angle-cosine.result.0 (own c.args.s c.args.c c.requires.small).0 c.half_angle-cosine.ensures.cosine
