@@ -1,16 +1,16 @@
 -- How large the values of a model are, as the code reads them.
-use Rattle.std.proofs.Common.{ℕ, ◌≤◌, ◌^◌, ℤ, pos, ◌-ℤ◌, ◌<ℤ◌, arith}
+use Rattle.std.proofs.Common.{◌≡◌, ℕ, ◌+◌, ◌*◌, ◌≤◌, ◌^◌, ℤ, pos, ◌+ℤ◌, ◌-ℤ◌, ◌*ℤ◌, ◌<ℤ◌, arith}
 use Rattle.std.specs.Int.{w64, cast_signed, cast_unsigned}
 use Rattle.std.specs.Prelude.{unsigned_abs}
 use Rattle.std.proofs.Math.Nat.{le_trans}
-use Rattle.std.proofs.lemmas.Int.{ints, to_z_pos}
+use Rattle.std.proofs.lemmas.Int.{ints, to_z_pos, unsigned_abs-mul}
 use Rattle.std.proofs.lemmas.Nat.{mul-le}
 use Rattle.trk_base.specs.Numbers.{IsBetween}
-use Rattle.trk_base.proofs.Sizes.{Is, is_pos}
+use Rattle.trk_base.proofs.Sizes.{Is, is_pos, is_add}
 use Rattle.trk_base.proofs.Roots.{square_le}
 use Rattle.fixed_imm.specs.declared.motion.Motion.{Motion}
 use Rattle.fixed_imm.specs.Bounds.{IsBounded}
-use Rattle.fixed_imm.proofs.Narrow.{var64, minus64}
+use Rattle.fixed_imm.proofs.Narrow.{var64, minus64, times64}
 
 -- a number of 64 bits, as the code reads it
 abbrev pub read : ℤ → ℤ
@@ -49,8 +49,28 @@ dv_of a b h k = minus64 (v_of a h) (v_of b k) tt
 pub part_of : {g : ℤ} → IsBetween (pos 0) g (pos 65536) → Is (read g) g 65536
 part_of {g} h = var64 g 65536 (omega (arith, ints, h.from, h.to)) tt
 
-pub rest_of : {g : ℤ} → IsBetween (pos 0) g (pos 65536) → Is (read (pos 65536 -ℤ read g)) (pos 65536 -ℤ g) 131072
-rest_of h = minus64 is_pos (part_of h) tt
+pub rest_of : {g : ℤ} → IsBetween (pos 0) g (pos 65536) → Is (read (pos 65536 -ℤ read g)) (pos 65536 -ℤ g) 65536
+rest_of {g} h = record { same = (minus64 is_pos (part_of h) tt).same; within = omega (arith, ints, h.from, h.to) }
+
+sum_size : (x y : ℤ) → unsigned_abs (x +ℤ y) ≤ unsigned_abs x + unsigned_abs y
+sum_size x y = omega (arith, ints)
+
+-- both parts together are no more than the whole of the larger number
+parts_size : (g h q0 q1 : ℤ) → unsigned_abs g + unsigned_abs h ≡ 65536 → unsigned_abs q0 ≤ 2 ^ 46 → unsigned_abs q1 ≤ 2 ^ 46 → unsigned_abs (g *ℤ q0 +ℤ h *ℤ q1) ≤ 2 ^ 62
+parts_size g h q0 q1 whole first second =
+    let a : unsigned_abs (g *ℤ q0) ≤ unsigned_abs g * 2 ^ 46 = rw (unsigned_abs-mul g q0) (mul-le (unsigned_abs g) (unsigned_abs q0) (unsigned_abs g) (2 ^ 46) (omega arith) first) in
+    let b : unsigned_abs (h *ℤ q1) ≤ unsigned_abs h * 2 ^ 46 = rw (unsigned_abs-mul h q1) (mul-le (unsigned_abs h) (unsigned_abs q1) (unsigned_abs h) (2 ^ 46) (omega arith) second) in
+    omega (arith, sum_size (g *ℤ q0) (h *ℤ q1), a, b, whole)
+
+-- two numbers by their parts, as the code adds them
+pub inside_of : {g : ℤ} (q0 q1 : ℤ) → IsBetween (pos 0) g (pos 65536) → unsigned_abs q0 ≤ 2 ^ 46 → unsigned_abs q1 ≤ 2 ^ 46
+    → Is (read (read g *ℤ read q0) +ℤ read (read (pos 65536 -ℤ read g) *ℤ read q1)) (g *ℤ q0 +ℤ (pos 65536 -ℤ g) *ℤ q1) (2 ^ 62)
+inside_of {g} q0 q1 h first second =
+    let whole : unsigned_abs g + unsigned_abs (pos 65536 -ℤ g) ≡ 65536 = omega (arith, ints, h.from, h.to) in
+    record {
+      same = (is_add (times64 (part_of h) (var64 q0 _ first tt) tt) (times64 (rest_of h) (var64 q1 _ second tt) tt)).same;
+      within = parts_size g (pos 65536 -ℤ g) q0 q1 whole first second;
+    }
 
 -- a variance as a divisor
 pub divisor_of : {s : ℤ} → IsBetween (pos 1) s (pos (2 ^ 47)) → Is (read s) s (2 ^ 47)

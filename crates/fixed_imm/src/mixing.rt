@@ -40,9 +40,9 @@ pub(crate) fn covariance(g: i64, q0: i64, q1: i64, spread: i64) -> i64
     ensures { result ≡ covariance g q0 q1 spread }
 {
     let rest = 65_536 - g;
-    let inside = g as i128 * q0 as i128 + rest as i128 * q1 as i128;
+    let inside = g * q0 + rest * q1;
     let between = (g * rest) as i128 * spread as i128;
-    (round_shift_wide(inside, 16) + round_shift_wide(between, 32)) as i64
+    round_shift(inside, 16) + round_shift_wide(between, 32) as i64
 }
 
 // Two models mixed, where the first has the weight `g` in 1/65,536.
