@@ -14,6 +14,10 @@ use crate::reading::MAGIC;
 use std::alloc::Global;
 use trk_base::NoMemory;
 
+// How many octets a certificate of one plot and a few tracks has, as nearly all are: so there is room
+// at once.
+const USUAL: usize = 128;
+
 fn put_word(out: &mut Vec<u8>, number: u64) -> Result<(), NoMemory>
     ensures { OnOk result (out.new.items ≡ out.old.items ++ to_be_bytes w64 number) }
 {
@@ -98,7 +102,7 @@ pub fn write_cert(alloc: Global, cert: &Cert) -> Result<Vec<u8>, NoMemory>
     requires { IsCert cert.now }
     ensures { IfOk result (λ v. v.items ≡ cert_octets cert.now) }
 {
-    let mut out = Vec::new(alloc);
+    let mut out = Vec::with_capacity(alloc, USUAL)?;
     put_head(
         &mut out,
         cert.slot,
