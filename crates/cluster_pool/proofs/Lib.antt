@@ -1,1 +1,4 @@
 pub mod Gathered
+pub mod Halves
+pub mod TakenOut
+pub mod WholeRuns

@@ -9,8 +9,8 @@ use Rattle.span_clusters.specs.Jobs.{NumbersDiffer, part_numbers}
 -- both are among the parts, and rest is the parts without them
 pub record AreTaken {S I : Type 0} (p q : Part S I) (parts rest : List (Part S I)) : Type 0 where
   pub others : List (Part S I)
-  pub one : Without q parts others
-  pub other : Without p others rest
+  pub one : Without p parts others
+  pub other : Without q others rest
 
 -- both numbers are those of parts, of two
 pub record AreNumbers {S I : Type 0} (a b : ℕ) (parts : List (Part S I)) : Type 0 where

@@ -34,7 +34,7 @@ fn take_both<F: Fold>(done: &mut Vec<Done<F>>, pair: (u8, u8)) -> Option<(Done<F
     let second = place_of(done, pair.1)?;
     let later = done.remove(first.max(second));
     let earlier = done.remove(first.min(second));
-    Some((earlier, later))
+    Some((later, earlier))
 }
 
 // Joins the parts of two numbers, where both are there.

@@ -72,7 +72,7 @@ where
 {
     let jobs = partition::<F, L>(alloc, state, items, wish, steps)?;
     let mut done = pool.run(alloc, jobs)?;
-    loop {
+    'joins: loop {
         let pairs = crossings(alloc, &done)?;
         if pairs.is_empty() {
             return Ok(done);

@@ -204,8 +204,8 @@ fn merged_slots<F: Separable>(
     let mut outs = Vec::new(alloc);
     let filled = slots_of::<F>(alloc, items)?;
     let mut walks = walks_of(alloc, done)?;
-    for slot in filled {
-        let (after, told) = all_gone_on(alloc, walks, slot)?;
+    for slot in &filled {
+        let (after, told) = all_gone_on(alloc, walks, *slot)?;
         states.push(state_of_all(alloc, &after)?)?;
         outs.push(F::together(alloc, told)?)?;
         walks = after;
