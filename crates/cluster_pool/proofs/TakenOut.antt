@@ -75,10 +75,13 @@ module _ {S I : Type 0} where
   -- the joined part still has a number of its own
   lower_differs : (a b : ℕ) (parts : List (Part S I)) → AllByRecursion (λ r. a ≢ r.number) parts → AllByRecursion (λ r. b ≢ r.number) parts → AllByRecursion (λ r. min a b ≢ r.number) parts
   lower_differs a b [] h k = tt
-  lower_differs a b (r ∷ parts) h k = (elim (cases_lt a b) [
-    | inl lt ↦ λ e. h.0 (omega (arith, lt, e))
-    | inr le ↦ λ e. k.0 (omega (arith, le, e))
-  ], lower_differs a b parts h.1 k.1)
+  lower_differs a b (r ∷ parts) h k = (
+    elim (cases_lt a b) [
+      | inl lt ↦ λ e. h.0 (omega (arith, lt, e))
+      | inr le ↦ λ e. k.0 (omega (arith, le, e))
+    ],
+    lower_differs a b parts h.1 k.1,
+  )
 
   pub joined_differ : (merged : S → S → S) (p q : Part S I) (parts rest : List (Part S I)) (items : List I) → AreTaken p q parts rest → NumbersDiffer parts → NumbersDiffer (joined merged p q items ∷ rest)
   joined_differ merged p q parts rest items t d =

@@ -38,7 +38,7 @@ module _ {S I K O : Type 0} (F : Separating S I K O) (L : SeparatingLaws F)
       let u : AreTaken p q (jobs ++ parts) (jobs ++ rest) = taken_behind p q jobs parts rest t in
       let split : (s : S) (zs : List I) → Rises F.cmp F.key zs → Splits s zs old → Splits s zs (made ∷ jobs ++ rest) =
       λ s zs up i. subst (λ m. Splits s zs (m ∷ jobs ++ rest)) (sym o.made)
-          (joined_splitting F L merged_rest total s zs p q (jobs ++ parts) u.others (jobs ++ rest) made.items up (c.splitting s zs up i) u.one u.other o.both o.rising).0 in
+      (joined_splitting F L merged_rest total s zs p q (jobs ++ parts) u.others (jobs ++ rest) made.items up (c.splitting s zs up i) u.one u.other o.both o.rising).0 in
       record {
         numbers = λ d. subst (λ m. NumbersDiffer (m ∷ jobs ++ rest)) (sym o.made) (joined_differ F.merged p q (jobs ++ parts) (jobs ++ rest) made.items u (c.numbers d));
         splitting = split;
