@@ -17,7 +17,7 @@ use Rattle.span_clusters.proofs.Separating.{Separating, SeparatingLaws}
 use Rattle.span_clusters.proofs.Resting.{empty_or, rested_step, rested_before, rested_filled, IsPartOf, rested_stays, reads}
 use Rattle.span_clusters.proofs.Spans.{AreParts, AreBrought, parts_of, bring, all_states, all_outs}
 use Rattle.span_clusters.proofs.FoundPairs.{take_more}
-use Rattle.cluster_pool.specs.Walks.{Left, left_states, Fills, Rests, GoesOn, GoOn, IsStart, AreAtStart}
+use Rattle.cluster_pool.specs.Walks.{Left, left_states, Fills, Rests, GoesOn, GoOn, IsStart, AreAtStart, MayMerge, IsMergedSlot}
 use Rattle.cluster_pool.proofs.Halves.{pairs_right, one_join}
 
 abbrev pub Rise : List ℕ → Type 0
@@ -161,6 +161,19 @@ module _ {S I O : Type 0} (next : S → ℕ → List I → S) (slot : I → ℕ)
   walk_states n [] ws a = ap left_states a
   walk_states n (p ∷ ps) [] a = absurd a
   walk_states n (p ∷ ps) (w ∷ ws) a = λ i. a.0.state i ∷ walk_states n ps ws a.1 i
+
+  take_whole : (k : ℕ) (ms : List ℕ) → length ms ≤ k → take k ms ≡ ms
+  take_whole zero [] l = refl
+  take_whole zero (m ∷ ms) l = absurd (omega (arith, l))
+  take_whole (suc k) [] l = refl
+  take_whole (suc k) (m ∷ ms) l = ap (λ (l : List ℕ). m ∷ l) (take_whole k ms (omega (arith, l)))
+
+  -- once all are behind
+  pub run_done : (Splits : S → Type 0) (parts : List (Part S I)) (k : ℕ) (walks : List (Left S O)) (run : List S) (outs : List O) → IsUnderway Splits parts (slots slot zs) k walks run outs → length (slots slot zs) ≤ k → (s : S) → Splits s → run ≡ states next slot s zs
+  run_done Splits parts k walks run outs u l s i = u.run s i ∙ ap (map (after next slot s zs)) (take_whole k (slots slot zs) l)
+
+  pub outs_done : (Splits : S → Type 0) (parts : List (Part S I)) (k : ℕ) (walks : List (Left S O)) (run : List S) (outs : List O) → IsUnderway Splits parts (slots slot zs) k walks run outs → length (slots slot zs) ≤ k → (s : S) → Splits s → AreOutsOf next slot is_out s zs outs
+  outs_done Splits parts k walks run outs u l s i = subst (λ (ns : List ℕ). OutsAt next slot is_out s zs ns outs) (take_whole k (slots slot zs) l) (u.outs s i)
 
 module _ {S I K O : Type 0} (F : Separating S I K O) (L : SeparatingLaws F) (order : (x y : I) → F.cmp x y ≡ Less → F.slot x ≤ F.slot y) (zs : List I) where
   abbrev brought : ℕ → Part S I → S
@@ -396,9 +409,6 @@ module _ {S I K O : Type 0} (F : Separating S I K O) (L : SeparatingLaws F) (ord
         more = take_more k all m l e;
       }
 
-  pub next_before : (s : S) (parts : List (Part S I)) (k m : ℕ) (walks : List (Left S O)) → Rises F.cmp F.key zs → Splits parts s → Clear parts → IsNext parts k m walks → AllByRecursion (λ w. F.is_before w.state m) walks
-  next_before s parts k m walks r i c n = walks_before m parts walks n.full (each_own s parts r i c) n.walks
-
   -- all parts after the next slot
   pub record AreAfter (parts : List (Part S I)) (m : ℕ) (vs : List (Left S O)) (told : List O) : Type 0 where
     pub stepped : AreStepped m parts vs told
@@ -451,14 +461,20 @@ module _ {S I K O : Type 0} (F : Separating S I K O) (L : SeparatingLaws F) (ord
             (outs_more s (take k all) outs m out (u.outs s i) (all_outs F L zs s parts r i c m n.full told out a.stepped.outs jo));
       }
 
-  take_whole : (k : ℕ) (ms : List ℕ) → length ms ≤ k → take k ms ≡ ms
-  take_whole zero [] l = refl
-  take_whole zero (m ∷ ms) l = absurd (omega (arith, l))
-  take_whole (suc k) [] l = refl
-  take_whole (suc k) (m ∷ ms) l = ap (λ (l : List ℕ). m ∷ l) (take_whole k ms (omega (arith, l)))
+  -- what the loop asks of a slot, and what it has after it
+  pub may_merge : (s : S) (parts : List (Part S I)) (k m : ℕ) (walks : List (Left S O)) (run : List S) (outs : List O) → Rises F.cmp F.key zs → Splits parts s → Clear parts → 2 ≤ length parts
+      → Underway parts k walks run outs → k < length (slots F.slot zs) → m ≡ get_or (slots F.slot zs) k m → MayMerge F.next F.is_before F.is_beside m walks
+  may_merge s parts k m walks run outs r i c two u l e =
+      let n : IsNext parts k m walks = comes_next s parts k m walks run outs r i c u l e in
+      record {
+        before = walks_before m parts walks n.full (each_own s parts r i c) n.walks;
+        beside = λ vs told g. (come_after s parts k m walks vs told r i c n g).beside;
+        several = λ vs told g. let same = (come_after s parts k m walks vs told r i c n g).length_same in omega (arith, same, two);
+        some = λ vs told g. (come_after s parts k m walks vs told r i c n g).some;
+      }
 
-  pub run_done : (parts : List (Part S I)) (k : ℕ) (walks : List (Left S O)) (run : List S) (outs : List O) → Underway parts k walks run outs → length (slots F.slot zs) ≤ k → (s : S) → Splits parts s → run ≡ states F.next F.slot s zs
-  run_done parts k walks run outs u l s i = u.run s i ∙ ap (map (after F.next F.slot s zs)) (take_whole k (slots F.slot zs) l)
-
-  pub outs_done : (parts : List (Part S I)) (k : ℕ) (walks : List (Left S O)) (run : List S) (outs : List O) → Underway parts k walks run outs → length (slots F.slot zs) ≤ k → (s : S) → Splits parts s → AreOutsOf F.next F.slot F.is_out s zs outs
-  outs_done parts k walks run outs u l s i = subst (λ (ns : List ℕ). OutsAt F.next F.slot F.is_out s zs ns outs) (take_whole k (slots F.slot zs) l) (u.outs s i)
+  pub one_slot_more : (s : S) (parts : List (Part S I)) (k m : ℕ) (walks vs : List (Left S O)) (run : List S) (outs : List O) (state : S) (out : O) → Rises F.cmp F.key zs → Splits parts s → Clear parts
+      → Underway parts k walks run outs → k < length (slots F.slot zs) → m ≡ get_or (slots F.slot zs) k m → IsMergedSlot F.next F.merged F.both m walks vs state out → Underway parts (k + 1) vs (run ++ state ∷ []) (outs ++ out ∷ [])
+  one_slot_more s parts k m walks vs run outs state out r i c u l e g =
+      let n : IsNext parts k m walks = comes_next s parts k m walks run outs r i c u l e in
+      underway_more parts k m walks vs run outs g.told state out r c u n (come_after s parts k m walks vs g.told r i c n g.gone) g.state g.out

@@ -1,7 +1,9 @@
 -- Runs of parts, walked side by side over the slots of the whole.
-use Rattle.std.specs.Prelude.{◌≡◌, ◌≢◌, ◌⊎◌, ℕ, List, [], ◌∷◌, ◌++◌, Option, Some, None, map}
+use Rattle.std.specs.Prelude.{◌≡◌, ◌≢◌, ◌⊎◌, ◌<◌, ◌≤◌, ℕ, List, [], ◌∷◌, ◌++◌, length, Option, Some, None, map}
+use Rattle.std.specs.List.{AllByRecursion}
 use Rattle.std.specs.Option.{option_to_list}
 use Rattle.late_window.specs.Folding.{slots, states, AreOutsOf}
+use Rattle.span_clusters.specs.Interleavings.{EachPair, IsJoin}
 use Rattle.span_clusters.specs.Parts.{Part}
 
 -- what is left of a part's run: the state before it, and its slots with the state and the out of each
@@ -53,3 +55,17 @@ abbrev pub AreAtStart : {S I O : Type 0} → (S → ℕ → List I → S) → (I
 AreAtStart next slot is_out [] ws = ws ≡ []
 AreAtStart next slot is_out (p ∷ parts) [] = ⊥
 AreAtStart next slot is_out (p ∷ parts) (w ∷ ws) = IsStart next slot is_out p w × AreAtStart next slot is_out parts ws
+
+-- the parts may go on over the slot, and then be merged
+pub record MayMerge {S I O : Type 0} (next : S → ℕ → List I → S) (is_before : S → ℕ → Type 0) (is_beside : S → S → Type 0) (n : ℕ) (ws : List (Left S O)) : Type 0 where
+  pub before : AllByRecursion (λ w. is_before w.state n) ws
+  pub beside : (vs : List (Left S O)) (outs : List O) → GoOn next n ws vs outs → EachPair is_beside (left_states vs)
+  pub several : (vs : List (Left S O)) (outs : List O) → GoOn next n ws vs outs → 2 ≤ length vs
+  pub some : (vs : List (Left S O)) (outs : List O) → GoOn next n ws vs outs → 0 < length outs
+
+-- the parts have gone on over the slot, and their states and outs are one
+pub record IsMergedSlot {S I O : Type 0} (next : S → ℕ → List I → S) (merged : S → S → S) (both : O → O → O) (n : ℕ) (ws vs : List (Left S O)) (s : S) (o : O) : Type 0 where
+  pub told : List O
+  pub gone : GoOn next n ws vs told
+  pub state : IsJoin merged (left_states vs) s
+  pub out : IsJoin both told o

@@ -1,11 +1,11 @@
 // The runs of parts, walked side by side over the slots of the whole.
-ghost use Rattle.std.specs.Prelude.{◌≡◌, ◌↔◌, ◌≤◌, ◌×◌, ◌∷◌, ◌++◌, ℕ, List, length, map, IfOk, IsTrue};
+ghost use Rattle.std.specs.Prelude.{◌≡◌, ◌↔◌, ◌≤◌, ◌∷◌, ◌++◌, ℕ, List, length, IfOk, OnOk, IsTrue};
 ghost use Rattle.std.specs.Option.{option_to_list};
 ghost use Rattle.std.specs.List.{AllByRecursion};
 ghost use Rattle.late_window.specs.Folding.{Rises, group_count, slots, states, AreOutsOf};
 ghost use Rattle.span_clusters.specs.Interleavings.{EachPair, IsJoin};
 ghost use Rattle.span_clusters.specs.Parts.{DontCross, IsSplitting};
-ghost use Rattle.cluster_pool.specs.Walks.{Left, left_states, IsStart, AreAtStart, GoesOn, GoOn};
+ghost use Rattle.cluster_pool.specs.Walks.{Left, left_states, IsStart, AreAtStart, GoesOn, GoOn, MayMerge, IsMergedSlot};
 
 use late_window::Fold;
 use span_clusters::{Done, Separable};
@@ -187,6 +187,22 @@ fn state_of_all<F: Separable>(alloc: Global, walks: &[Walk<F>]) -> Result<F::Sta
     F::merge(alloc, &one, &other)
 }
 
+// One slot of the whole: the parts after it, their states as one, and the outs of those that fill
+// it as one.
+fn merged_slot<F: Separable>(
+    alloc: Global,
+    walks: Vec<Walk<F>>,
+    slot: u64,
+) -> Result<(Vec<Walk<F>>, F::State, F::Out), NoMemory>
+    requires { MayMerge F.next F.is_before F.is_beside slot walks.items }
+    ensures { IfOk result (λ r. IsMergedSlot F.next F.merged F.both slot walks.items r.0.items r.1 r.2) }
+{
+    let (after, told) = all_gone_on(alloc, walks, slot)?;
+    let state = state_of_all(alloc, &after)?;
+    let out = F::together(alloc, told)?;
+    Ok((after, state, out))
+}
+
 // The state and the out of the whole after each slot, from at least two parts.
 fn merged_slots<F: Separable>(
     alloc: Global,
@@ -205,10 +221,10 @@ fn merged_slots<F: Separable>(
     let filled = slots_of::<F>(alloc, items)?;
     let mut walks = walks_of(alloc, done)?;
     for slot in &filled {
-        let (after, told) = all_gone_on(alloc, walks, *slot)?;
-        states.push(state_of_all(alloc, &after)?)?;
-        outs.push(F::together(alloc, told)?)?;
+        let (after, state, out) = merged_slot(alloc, walks, *slot)?;
         walks = after;
+        states.push(state)?;
+        outs.push(out)?;
     }
     Ok((states, outs))
 }
