@@ -1,9 +1,10 @@
 -- States that share no member, merged by halves.
-use Rattle.std.proofs.Common.{◌≡◌, ◌∙◌, ap, sym, refl, List, [], ◌∷◌, ◌++◌}
+use Rattle.std.proofs.Common.{◌≡◌, ◌∙◌, ap, sym, refl, subst, List, [], ◌∷◌, ◌++◌, length, get_or, arith}
 use Rattle.std.specs.Prelude.{fold}
 use Rattle.std.specs.List.{AllByRecursion}
 use Rattle.late_window.proofs.Lists.{all_left, all_right}
 use Rattle.span_clusters.specs.Interleavings.{EachPair, IsJoin}
+use Rattle.cluster_pool.specs.Walks.{Left, left_states}
 
 module _ {X : Type 0} (R : X → X → Type 0) where
   pub pairs_left : (xs ys : List X) → EachPair R (xs ++ ys) → EachPair R xs
@@ -21,6 +22,21 @@ module _ {X : Type 0} (R : X → X → Type 0) where
 pub one_join : {X : Type 0} (op : X → X → X) (xs : List X) (a b : X) → IsJoin op xs a → IsJoin op xs b → a ≡ b
 one_join op [] a b h k = absurd h
 one_join op (x ∷ xs) a b h k = h ∙ sym k
+
+pub two_of : {X : Type 0} (xs : List X) (a b : X) → length xs ≡ 2 → a ≡ get_or xs 0 a → b ≡ get_or xs 1 b → xs ≡ a ∷ b ∷ []
+two_of [] a b l e f = absurd (omega (arith, l))
+two_of (x ∷ []) a b l e f = absurd (omega (arith, l))
+two_of (x ∷ y ∷ []) a b l e f = λ i. sym e i ∷ sym f i ∷ []
+two_of (x ∷ y ∷ z ∷ xs) a b l e f = absurd (omega (arith, l))
+
+pub one_of : {X : Type 0} (xs : List X) (a : X) → length xs ≡ 1 → a ≡ get_or xs 0 a → xs ≡ a ∷ []
+one_of [] a l e = absurd (omega (arith, l))
+one_of (x ∷ []) a l e = λ i. sym e i ∷ []
+one_of (x ∷ y ∷ xs) a l e = absurd (omega (arith, l))
+
+states_append : {S O : Type 0} (xs ys : List (Left S O)) → left_states (xs ++ ys) ≡ left_states xs ++ left_states ys
+states_append [] ys = refl
+states_append {S} {O} (x ∷ xs) ys = ap (λ (l : List S). x.state ∷ l) (states_append xs ys)
 
 module _ {S : Type 0} (beside : S → S → Type 0) (merged : S → S → S)
     (back : (s t : S) → beside s t → beside t s)
@@ -52,7 +68,7 @@ module _ {S : Type 0} (beside : S → S → Type 0) (merged : S → S → S)
 
   -- the two halves
   pub record AreHalves (xs ys : List S) (s t : S) : Type 0 where
-    pub beside : beside s t
+    pub apart : beside s t
     pub whole : IsJoin merged (xs ++ ys) (merged s t)
 
   pub halves : (xs ys : List S) (s t : S) → EachPair beside (xs ++ ys) → IsJoin merged xs s → IsJoin merged ys t → AreHalves xs ys s t
@@ -63,6 +79,28 @@ module _ {S : Type 0} (beside : S → S → Type 0) (merged : S → S → S)
       let other : EachPair beside (y ∷ ys) = pairs_right beside (x ∷ xs) (y ∷ ys) d in
       let apart : AllByRecursion (beside (fold merged x xs)) (y ∷ ys) = fold_beside x xs (y ∷ ys) one (pairs_across beside (x ∷ xs) (y ∷ ys) d) in
       record {
-        beside = rw (h, k) (beside_fold (fold merged x xs) y ys apart other);
+        apart = rw (h, k) (beside_fold (fold merged x xs) y ys apart other);
         whole = (λ i. merged (h i) (k i)) ∙ sym (fold_append x xs (y ∷ ys) ∙ fold_on (fold merged x xs) y ys apart other);
       }
+
+  module _ {O : Type 0} (ws : List (Left S O)) (apart : EachPair beside (left_states ws)) where
+    pub two_beside : (a b : Left S O) → ws ≡ a ∷ b ∷ [] → beside a.state b.state
+    two_beside a b e = (subst (λ (l : List (Left S O)). EachPair beside (left_states l)) e apart).0.0
+
+    pub two_joined : (a b : Left S O) (s : S) → ws ≡ a ∷ b ∷ [] → s ≡ merged a.state b.state → IsJoin merged (left_states ws) s
+    two_joined a b s e h = subst (λ (l : List (Left S O)). IsJoin merged (left_states l) s) (sym e) h
+
+    cut_states : (xs ys : List (Left S O)) → ws ≡ xs ++ ys → left_states ws ≡ left_states xs ++ left_states ys
+    cut_states xs ys e = ap left_states e ∙ states_append xs ys
+
+    pub left_beside : (xs ys : List (Left S O)) → ws ≡ xs ++ ys → EachPair beside (left_states xs)
+    left_beside xs ys e = pairs_left beside (left_states xs) (left_states ys) (subst (EachPair beside) (cut_states xs ys e) apart)
+
+    pub right_beside : (xs ys : List (Left S O)) → ws ≡ xs ++ ys → EachPair beside (left_states ys)
+    right_beside xs ys e = pairs_right beside (left_states xs) (left_states ys) (subst (EachPair beside) (cut_states xs ys e) apart)
+
+    pub both_halves : (xs ys : List (Left S O)) (s t : S) → ws ≡ xs ++ ys → IsJoin merged (left_states xs) s → IsJoin merged (left_states ys) t → AreHalves (left_states xs) (left_states ys) s t
+    both_halves xs ys s t e h k = halves (left_states xs) (left_states ys) s t (subst (EachPair beside) (cut_states xs ys e) apart) h k
+
+    pub halves_joined : (xs ys : List (Left S O)) (s t r : S) → ws ≡ xs ++ ys → IsJoin merged (left_states xs) s → IsJoin merged (left_states ys) t → r ≡ merged s t → IsJoin merged (left_states ws) r
+    halves_joined xs ys s t r e h k m = subst (λ (l : List S). IsJoin merged l r) (sym (cut_states xs ys e)) (subst (IsJoin merged (left_states xs ++ left_states ys)) (sym m) (both_halves xs ys s t e h k).whole)

@@ -4,12 +4,26 @@ use Rattle.std.specs.Prelude.{◌⊎◌, Contains, min, max}
 use Rattle.std.specs.List.{AllByRecursion}
 use Rattle.std.specs.declared.cmp.Ordering.{Ordering}
 use Rattle.std.proofs.lemmas.Bool.{cases_lt}
-use Rattle.late_window.specs.Folding.{Rises, slots}
+use Rattle.late_window.specs.Folding.{Rises, BeforeFirst, slots}
 use Rattle.span_clusters.specs.Interleavings.{Interleaved, KeysDiffer, EachPair}
 use Rattle.span_clusters.specs.Parts.{Part, Cross, Without, joined}
 use Rattle.span_clusters.specs.Jobs.{NumbersDiffer, AreBeforeBoth, AreParts, CrossWith, CrossAs, part_numbers}
 use Rattle.span_clusters.proofs.Interleavings.{contains_first, contains_later, contains_cons}
 use Rattle.cluster_pool.specs.Joins.{AreTaken, AreNumbers}
+
+pub empty_lacks : {X : Type 0} (xs : List X) (x : X) → xs ≡ [] → Contains xs x → ⊥
+empty_lacks [] x e c = omega (arith, c.1)
+empty_lacks (y ∷ xs) x e c = let h : length (y ∷ xs) ≡ 0 = ap length e in omega (arith, h)
+
+-- the state is before the first item's slot
+pub some_before : {S I : Type 0} (is_before : S → ℕ → Type 0) (slot : I → ℕ) (s : S) (xs : List I) → 0 < length xs → BeforeFirst is_before slot s xs → (n : ℕ) × is_before s n
+some_before is_before slot s [] l b = absurd (omega (arith, l))
+some_before is_before slot s (x ∷ xs) l b = (slot x, b)
+
+pub contains_at : {X : Type 0} (xs : List X) (i : ℕ) (x : X) → i < length xs → x ≡ get_or xs i x → Contains xs x
+contains_at [] i x l e = absurd (omega (arith, l))
+contains_at (y ∷ xs) zero x l e = contains_first y x xs (sym e)
+contains_at (y ∷ xs) (suc i) x l e = contains_later y x xs (contains_at xs i x (omega (arith, l)) e)
 
 module _ {S I : Type 0} where
   pub without_length : (p : Part S I) (parts rest : List (Part S I)) → Without p parts rest → length rest + 1 ≡ length parts
@@ -55,7 +69,7 @@ module _ {S I : Type 0} where
     pub beside : is_beside p.start q.start
     pub keys : KeysDiffer key p.items q.items
     pub before : AreBeforeBoth slot is_before p q
-    pub rest : AreParts slot key is_before is_beside rest
+    pub left : AreParts slot key is_before is_beside rest
 
   pub two_taken : {K : Type 0} (slot : I → ℕ) (key : I → K) (is_before : S → ℕ → Type 0) (is_beside : S → S → Type 0) → ((s t : S) → is_beside s t → is_beside t s)
       → (p q : Part S I) (parts rest : List (Part S I)) → AreTaken p q parts rest → AreParts slot key is_before is_beside parts → AreTwo slot key is_before is_beside p q rest
@@ -69,7 +83,7 @@ module _ {S I : Type 0} where
         beside = b.0;
         keys = k.0;
         before = m.0;
-        rest = record { numbers = n.1; beside = b.1; keys = k.1; before = m.1 };
+        left = record { numbers = n.1; beside = b.1; keys = k.1; before = m.1 };
       }
 
   -- the joined part still has a number of its own
@@ -132,3 +146,30 @@ module _ {S I : Type 0} where
   pub none_cross : (next : S → ℕ → List I → S) (slot : I → ℕ) (gates : S → ℕ → List I → I → Type 0) (parts : List (Part S I)) → ((a b : ℕ) → CrossAs next slot gates parts a b → ⊥) → EachPair (λ p q. Cross next slot gates p q → ⊥) parts
   none_cross next slot gates [] f = tt
   none_cross next slot gates (p ∷ parts) f = (none_with next slot gates p parts (λ a b h. f a b (inl h)), none_cross next slot gates parts (λ a b h. f a b (inr h)))
+
+  same_place : (parts : List (Part S I)) (i j a b : ℕ) (p : Part S I) → a ≢ b → ((d : Part S I) → (get_or parts i d).number ≡ a) → ((d : Part S I) → (get_or parts j d).number ≡ b) → i ≢ j
+  same_place parts i j a b p n h k e = n (sym (h p) ∙ ap (λ m. (get_or parts m p).number) e ∙ k p)
+
+  -- the parts at two places, the later one first
+  pub both_taken : (parts : List (Part S I)) (i j : ℕ) (p q : Part S I) → j < i → i < length parts → p ≡ get_or parts i p → q ≡ get_or (take i parts ++ drop (suc i) parts) j q
+      → AreTaken p q parts (take j (take i parts ++ drop (suc i) parts) ++ drop (suc j) (take i parts ++ drop (suc i) parts))
+  both_taken parts i j p q l m e f =
+      let mid = take i parts ++ drop (suc i) parts in
+      let w : Without p parts mid = without_at parts i p m e in
+      let len = without_length p parts mid w in
+      record { others = mid; one = w; other = without_at mid j q (omega (arith, l, m, len)) f }
+
+  pub two_places : (parts : List (Part S I)) (i j a b : ℕ) → a ≢ b → i < length parts → j < length parts → ((d : Part S I) → (get_or parts i d).number ≡ a) → ((d : Part S I) → (get_or parts j d).number ≡ b) → i ≢ j
+  two_places [] i j a b n l m h k = absurd (omega (arith, l))
+  two_places (p ∷ parts) i j a b n l m h k = same_place (p ∷ parts) i j a b p n h k
+
+  pub places_taken : (parts mid rest : List (Part S I)) (i j high low a b : ℕ) (p q : Part S I) → a ≢ b
+      → (i < length parts) × ((d : Part S I) → (get_or parts i d).number ≡ a) → (j < length parts) × ((d : Part S I) → (get_or parts j d).number ≡ b)
+      → high ≡ max i j → low ≡ min i j → p ≡ get_or parts high p → mid ≡ take high parts ++ drop (suc high) parts → q ≡ get_or mid low q → rest ≡ take low mid ++ drop (suc low) mid → AreTaken p q parts rest
+  places_taken parts mid rest i j high low a b p q n one other h l e f g k =
+      let apart : i ≢ j = two_places parts i j a b n one.0 other.0 one.1 other.1 in
+      let below : low < high = elim (cases_lt i j) [ inl lt ↦ omega (arith, lt, h, l) | inr le ↦ elim (cases_lt j i) [ inl lt ↦ omega (arith, lt, h, l) | inr ge ↦ absurd (apart (omega (arith, le, ge))) ] ] in
+      let inside : high < length parts = let x = one.0 in let y = other.0 in omega (arith, h, x, y) in
+      let q' : q ≡ get_or (take high parts ++ drop (suc high) parts) low q = g ∙ ap (λ (m : List (Part S I)). get_or m low q) f in
+      let r' : rest ≡ take low (take high parts ++ drop (suc high) parts) ++ drop (suc low) (take high parts ++ drop (suc high) parts) = k ∙ ap (λ (m : List (Part S I)). take low m ++ drop (suc low) m) f in
+      subst (AreTaken p q parts) (sym r') (both_taken parts high low p q below inside e q')

@@ -1,5 +1,5 @@
 -- The runs of parts on their way over the slots of the whole.
-use Rattle.std.proofs.Common.{◌≡◌, ◌≢◌, ◌∙◌, ap, sym, refl, subst, ℕ, zero, suc, ◌+◌, ◌<◌, ◌≤◌, List, [], ◌∷◌, ◌++◌, length, map, take, drop, get_or, append_assoc, true, false, eqb, eq-eqb, arith, inl, inr}
+use Rattle.std.proofs.Common.{◌≡◌, ◌≢◌, ◌∙◌, ap, sym, refl, subst, ℕ, zero, suc, ◌+◌, ◌<◌, ◌≤◌, List, [], ◌∷◌, ◌++◌, length, map, take, drop, get_or, append_assoc, append-nil, true, false, eqb, eq-eqb, arith, inl, inr}
 use Rattle.std.specs.Prelude.{◌⊎◌, Contains, Option, Some, None}
 use Rattle.std.specs.List.{AllByRecursion}
 use Rattle.std.specs.Option.{option_to_list}
@@ -12,7 +12,7 @@ use Rattle.late_window.proofs.Cuts.{slots_all}
 use Rattle.late_window.proofs.Lists.{all_weaker, all_append}
 use Rattle.span_clusters.specs.Interleavings.{AllInterleaved, EachPair, IsJoin}
 use Rattle.span_clusters.specs.Parts.{Part, IsFilled, IsSplitting, DontCross, all_items, states_after, OutsBegin, AreOutsAt}
-use Rattle.span_clusters.proofs.Interleavings.{contains_first, contains_later, contains_cons, all_contains, both_length, all_filtered}
+use Rattle.span_clusters.proofs.Interleavings.{contains_first, contains_later, contains_cons, all_contains, both_length, all_filtered, alone}
 use Rattle.span_clusters.proofs.Separating.{Separating, SeparatingLaws}
 use Rattle.span_clusters.proofs.Resting.{empty_or, rested_step, rested_before, rested_filled, IsPartOf, rested_stays, reads}
 use Rattle.span_clusters.proofs.Spans.{AreParts, AreBrought, parts_of, bring, all_states, all_outs}
@@ -108,6 +108,42 @@ begin_needs : {I O : Type 0} (P : O → Type 0) (Q : List O → Type 0) (xs : Li
 begin_needs P Q [] l h = omega (arith, l)
 begin_needs P Q (x ∷ xs) l h = h
 
+only_one : {X : Type 0} (rest : List X) (x : X) → length (rest ++ x ∷ []) ≤ 1 → rest ++ x ∷ [] ≡ x ∷ []
+only_one [] x l = refl
+only_one (y ∷ []) x l = absurd (omega (arith, l))
+only_one (y ∷ z ∷ rest) x l = absurd (omega (arith, l))
+
+module _ {S I : Type 0} (slot : I → ℕ) (is_before : S → ℕ → Type 0) (is_beside : S → S → Type 0) (merged : S → S → S) where
+  -- one part alone is the whole
+  pub record IsWhole (p : Part S I) (s : S) (zs : List I) : Type 0 where
+    pub start : p.start ≡ s
+    pub items : p.items ≡ zs
+
+  pub one_part : (parts rest : List (Part S I)) (p : Part S I) (s : S) (zs : List I) → parts ≡ rest ++ p ∷ [] → length parts ≤ 1 → IsSplitting slot is_before is_beside merged s zs parts → IsWhole p s zs
+  one_part parts rest p s zs e l i =
+      let same : parts ≡ p ∷ [] = e ∙ only_one rest p (subst (λ (ps : List (Part S I)). length ps ≤ 1) e l) in
+      let j : IsSplitting slot is_before is_beside merged s zs (p ∷ []) = subst (IsSplitting slot is_before is_beside merged s zs) same i in
+      record { start = sym j.state; items = alone p.items j.items.0 zs j.items.1 j.items.2 }
+
+  pub no_part : (parts : List (Part S I)) (s : S) (zs : List I) → length parts ≡ 0 → IsSplitting slot is_before is_beside merged s zs parts → ⊥
+  no_part [] s zs l i = i.state
+  no_part (p ∷ parts) s zs l i = omega (arith, l)
+
+module _ {S I O : Type 0} (next : S → ℕ → List I → S) (slot : I → ℕ) (is_out : S → ℕ → List I → O → Type 0) where
+  pub start_more : (ps : List (Part S I)) (ws : List (Left S O)) (p : Part S I) (w : Left S O) → AreAtStart next slot is_out ps ws → IsStart next slot is_out p w → AreAtStart next slot is_out (ps ++ p ∷ []) (ws ++ w ∷ [])
+  start_more [] ws p w h k = subst (λ (l : List (Left S O)). AreAtStart next slot is_out (p ∷ []) (l ++ w ∷ [])) (sym h) (k, refl)
+  start_more (q ∷ ps) [] p w h k = absurd h
+  start_more (q ∷ ps) (v ∷ ws) p w h k = (h.0, start_more ps ws p w h.1 k)
+
+module _ {S I O : Type 0} (next : S → ℕ → List I → S) where
+  pub goes_more : (n : ℕ) (ws vs : List (Left S O)) (outs : List O) (w v : Left S O) (told : Option O) → GoOn next n ws vs outs → GoesOn next n w v told → GoOn next n (ws ++ w ∷ []) (vs ++ v ∷ []) (outs ++ option_to_list told)
+  goes_more n [] vs outs w v told h k =
+      subst (λ (l : List (Left S O)). GoOn next n (w ∷ []) (l ++ v ∷ []) (outs ++ option_to_list told)) (sym h.0)
+      (subst (λ (l : List O). GoOn next n (w ∷ []) (v ∷ []) (l ++ option_to_list told)) (sym h.1) (told, [], k, sym (append-nil (option_to_list told)), (refl, refl)))
+  goes_more n (x ∷ ws) [] outs w v told h k = absurd h
+  goes_more n (x ∷ ws) (y ∷ vs) outs w v told h k =
+      (h.0, h.1 ++ option_to_list told, h.2, ap (λ (l : List O). l ++ option_to_list told) h.3 ∙ append_assoc (option_to_list h.0) h.1 (option_to_list told), goes_more n ws vs h.1 w v told h.4 k)
+
 module _ {S I O : Type 0} (next : S → ℕ → List I → S) (slot : I → ℕ) (is_out : S → ℕ → List I → O → Type 0) (zs : List I) where
   -- what is left of a part's run before slot n, where zs are the items of the whole
   pub record IsWalk (n : ℕ) (p : Part S I) (w : Left S O) : Type 0 where
@@ -129,9 +165,9 @@ module _ {S I O : Type 0} (next : S → ℕ → List I → S) (slot : I → ℕ)
     pub n : ℕ
     pub past : AllByRecursion (λ m. m < n) (take k filled)
     pub ahead : AllByRecursion (λ m. n ≤ m) (drop k filled)
-    pub walks : AreWalks n parts walks
-    pub run : (s : S) → Splits s → run ≡ map (after next slot s zs) (take k filled)
-    pub outs : (s : S) → Splits s → OutsAt next slot is_out s zs (take k filled) outs
+    pub on : AreWalks n parts walks
+    pub folded : (s : S) → Splits s → run ≡ map (after next slot s zs) (take k filled)
+    pub told : (s : S) → Splits s → OutsAt next slot is_out s zs (take k filled) outs
 
   all_zero : (ms : List ℕ) → AllByRecursion (λ m. 0 ≤ m) ms
   all_zero [] = tt
@@ -155,7 +191,7 @@ module _ {S I O : Type 0} (next : S → ℕ → List I → S) (slot : I → ℕ)
   all_begin (p ∷ ps) (w ∷ ws) h = (walk_begins p w h.0, all_begin ps ws h.1)
 
   pub underway_first : (Splits : S → Type 0) (parts : List (Part S I)) (filled : List ℕ) (walks : List (Left S O)) → AreAtStart next slot is_out parts walks → IsUnderway Splits parts filled 0 walks [] []
-  underway_first Splits parts filled walks h = record { n = 0; past = tt; ahead = all_zero (drop 0 filled); walks = all_begin parts walks h; run = λ s i. refl; outs = λ s i. refl }
+  underway_first Splits parts filled walks h = record { n = 0; past = tt; ahead = all_zero (drop 0 filled); on = all_begin parts walks h; folded = λ s i. refl; told = λ s i. refl }
 
   pub walk_states : (n : ℕ) (ps : List (Part S I)) (ws : List (Left S O)) → AreWalks n ps ws → left_states ws ≡ map (λ p. rested_before next slot p.start p.items zs n) ps
   walk_states n [] ws a = ap left_states a
@@ -170,10 +206,10 @@ module _ {S I O : Type 0} (next : S → ℕ → List I → S) (slot : I → ℕ)
 
   -- once all are behind
   pub run_done : (Splits : S → Type 0) (parts : List (Part S I)) (k : ℕ) (walks : List (Left S O)) (run : List S) (outs : List O) → IsUnderway Splits parts (slots slot zs) k walks run outs → length (slots slot zs) ≤ k → (s : S) → Splits s → run ≡ states next slot s zs
-  run_done Splits parts k walks run outs u l s i = u.run s i ∙ ap (map (after next slot s zs)) (take_whole k (slots slot zs) l)
+  run_done Splits parts k walks run outs u l s i = u.folded s i ∙ ap (map (after next slot s zs)) (take_whole k (slots slot zs) l)
 
   pub outs_done : (Splits : S → Type 0) (parts : List (Part S I)) (k : ℕ) (walks : List (Left S O)) (run : List S) (outs : List O) → IsUnderway Splits parts (slots slot zs) k walks run outs → length (slots slot zs) ≤ k → (s : S) → Splits s → AreOutsOf next slot is_out s zs outs
-  outs_done Splits parts k walks run outs u l s i = subst (λ (ns : List ℕ). OutsAt next slot is_out s zs ns outs) (take_whole k (slots slot zs) l) (u.outs s i)
+  outs_done Splits parts k walks run outs u l s i = subst (λ (ns : List ℕ). OutsAt next slot is_out s zs ns outs) (take_whole k (slots slot zs) l) (u.told s i)
 
 module _ {S I K O : Type 0} (F : Separating S I K O) (L : SeparatingLaws F) (order : (x y : I) → F.cmp x y ≡ Less → F.slot x ≤ F.slot y) (zs : List I) where
   abbrev brought : ℕ → Part S I → S
@@ -224,7 +260,7 @@ module _ {S I K O : Type 0} (F : Separating S I K O) (L : SeparatingLaws F) (ord
           folded = tails v.state (run n) v.states (map run v.slots) same;
           told = outs.1;
         };
-        out = λ Q rest q. subst (λ o. OutsBegin P Q (at_slot F.slot n p.items) (option_to_list o ++ rest)) (sym h.told) (begin_some P Q (at_slot F.slot n p.items) h.out rest own outs.0 q);
+        out = λ Q rest q. subst (λ o. OutsBegin P Q (at_slot F.slot n p.items) (option_to_list o ++ rest)) (sym h.tells) (begin_some P Q (at_slot F.slot n p.items) h.out rest own outs.0 q);
       }
 
   step_rests : (n : ℕ) (p : Part S I) (w v : Left S O) (told : Option O) → Own p → IsFilled F.slot n zs → Walk n p w → Rests F.next n w v told → IsStepped n p v told
@@ -250,7 +286,7 @@ module _ {S I K O : Type 0} (F : Separating S I K O) (L : SeparatingLaws F) (ord
           folded = h.states ∙ a.folded ∙ ap (map run) (sym h.slots);
           told = subst (λ (l : List O). OutsAt F.next F.slot F.is_out p.start p.items v.slots l) (sym h.outs) (subst (λ (l : List ℕ). OutsAt F.next F.slot F.is_out p.start p.items l w.outs) (sym h.slots) a.told);
         };
-        out = λ Q rest q. subst (λ o. OutsBegin P Q (at_slot F.slot n p.items) (option_to_list o ++ rest)) (sym h.told) (begin_none P Q (at_slot F.slot n p.items) rest none q);
+        out = λ Q rest q. subst (λ o. OutsBegin P Q (at_slot F.slot n p.items) (option_to_list o ++ rest)) (sym h.tells) (begin_none P Q (at_slot F.slot n p.items) rest none q);
       }
 
   step_one : (n : ℕ) (p : Part S I) (w v : Left S O) (told : Option O) → Own p → IsFilled F.slot n zs → Walk n p w → GoesOn F.next n w v told → IsStepped n p v told
@@ -258,19 +294,19 @@ module _ {S I K O : Type 0} (F : Separating S I K O) (L : SeparatingLaws F) (ord
   step_one n p w v told i f a (inr h) = step_rests n p w v told i f a h
 
   pub record AreStepped (n : ℕ) (ps : List (Part S I)) (vs : List (Left S O)) (outs : List O) : Type 0 where
-    pub walks : Walks (suc n) ps vs
-    pub outs : AreOutsAt F.next F.slot F.is_out n ps outs
+    pub on : Walks (suc n) ps vs
+    pub told : AreOutsAt F.next F.slot F.is_out n ps outs
 
   pub step_all : (n : ℕ) (ps : List (Part S I)) (ws vs : List (Left S O)) (outs : List O) → IsFilled F.slot n zs → AllByRecursion Own ps → Walks n ps ws → GoOn F.next n ws vs outs → AreStepped n ps vs outs
-  step_all n [] ws vs outs f i a g = let r : (vs ≡ []) × (outs ≡ []) = subst (λ (l : List (Left S O)). GoOn F.next n l vs outs) a g in record { walks = r.0; outs = r.1 }
+  step_all n [] ws vs outs f i a g = let r : (vs ≡ []) × (outs ≡ []) = subst (λ (l : List (Left S O)). GoOn F.next n l vs outs) a g in record { on = r.0; told = r.1 }
   step_all n (p ∷ ps) [] vs outs f i a g = absurd a
   step_all n (p ∷ ps) (w ∷ ws) [] outs f i a g = absurd g
   step_all n (p ∷ ps) (w ∷ ws) (v ∷ vs) outs f i a g =
       let one : IsStepped n p v g.0 = step_one n p w v g.0 i.0 f a.0 g.2 in
       let more : AreStepped n ps vs g.1 = step_all n ps ws vs g.1 f i.1 a.1 g.4 in
       record {
-        walks = (one.walk, more.walks);
-        outs = subst (AreOutsAt F.next F.slot F.is_out n (p ∷ ps)) (sym g.3) (one.out (AreOutsAt F.next F.slot F.is_out n ps) g.1 more.outs);
+        on = (one.walk, more.on);
+        told = subst (AreOutsAt F.next F.slot F.is_out n (p ∷ ps)) (sym g.3) (one.out (AreOutsAt F.next F.slot F.is_out n ps) g.1 more.told);
       }
 
   -- nothing is of the slots from n up to m
@@ -368,7 +404,7 @@ module _ {S I K O : Type 0} (F : Separating S I K O) (L : SeparatingLaws F) (ord
   -- the next slot of the whole
   pub record IsNext (parts : List (Part S I)) (k m : ℕ) (walks : List (Left S O)) : Type 0 where
     pub full : IsFilled F.slot m zs
-    pub walks : Walks m parts walks
+    pub on : Walks m parts walks
     pub past : AllByRecursion (λ j. j < m) (take k (slots F.slot zs))
     pub ahead : AllByRecursion (λ j. m < j) (drop (suc k) (slots F.slot zs))
     pub more : take (k + 1) (slots F.slot zs) ≡ take k (slots F.slot zs) ++ m ∷ []
@@ -403,7 +439,7 @@ module _ {S I K O : Type 0} (F : Separating S I K O) (L : SeparatingLaws F) (ord
       ] in
       record {
         full = has_filled F.slot m zs (subst (λ (ms : List ℕ). Contains ms m) cut (contains_right (take k all) (m ∷ drop (suc k) all) m (contains_first m m (drop (suc k) all) refl)));
-        walks = lift_all u.n m parts walks low gap (each_own s parts r i c) u.walks;
+        on = lift_all u.n m parts walks low gap (each_own s parts r i c) u.on;
         past = all_weaker (λ j. j < u.n) (λ j. j < m) (λ j h. omega (arith, h, low)) (take k all) u.past;
         ahead = rising.0;
         more = take_more k all m l e;
@@ -425,14 +461,14 @@ module _ {S I K O : Type 0} (F : Separating S I K O) (L : SeparatingLaws F) (ord
   pub come_after : (s : S) (parts : List (Part S I)) (k m : ℕ) (walks vs : List (Left S O)) (told : List O) → Rises F.cmp F.key zs → Splits parts s → Clear parts → IsNext parts k m walks → GoOn F.next m walks vs told → AreAfter parts m vs told
   come_after s parts k m walks vs told r i c n g =
       let own : AllByRecursion Own parts = each_own s parts r i c in
-      let a : AreStepped m parts vs told = step_all m parts walks vs told n.full own n.walks g in
-      let same : left_states vs ≡ map (brought (suc m)) parts = walk_states F.next F.slot F.is_out zs (suc m) parts vs a.walks in
+      let a : AreStepped m parts vs told = step_all m parts walks vs told n.full own n.on g in
+      let same : left_states vs ≡ map (brought (suc m)) parts = walk_states F.next F.slot F.is_out zs (suc m) parts vs a.on in
       record {
         stepped = a;
         beside = subst (EachPair F.is_beside) (sym same) (all_beside s parts r i c (suc m));
         states = same ∙ afters m parts n.full own;
-        some = some_told m parts told i.items n.full a.outs;
-        length_same = same_length (suc m) parts vs a.walks;
+        some = some_told m parts told i.items n.full a.told;
+        length_same = same_length (suc m) parts vs a.on;
       }
 
   map_more : {X Y : Type 0} (f : X → Y) (xs : List X) (x : X) → map f (xs ++ x ∷ []) ≡ map f xs ++ f x ∷ []
@@ -452,13 +488,13 @@ module _ {S I K O : Type 0} (F : Separating S I K O) (L : SeparatingLaws F) (ord
         n = suc m;
         past = subst (AllByRecursion (λ j. j < suc m)) (sym n.more) (all_append (λ j. j < suc m) (take k all) (m ∷ []) (all_weaker (λ j. j < m) (λ j. j < suc m) (λ j h. omega (arith, h)) (take k all) n.past) (omega arith, tt));
         ahead = subst (λ j. AllByRecursion (λ i. suc m ≤ i) (drop j all)) (let e : suc k ≡ k + 1 = omega arith in e) (all_weaker (λ j. m < j) (λ j. suc m ≤ j) (λ j h. omega (arith, h)) (drop (suc k) all) n.ahead);
-        walks = a.stepped.walks;
-        run = λ s i.
+        on = a.stepped.on;
+        folded = λ s i.
             let one : state ≡ after F.next F.slot s zs m =
             one_join F.merged (states_after F.next F.slot parts m) state (after F.next F.slot s zs m) (subst (λ (l : List S). IsJoin F.merged l state) a.states js) (all_states F L zs s parts r i c m n.full) in
-            (λ j. u.run s i j ++ one j ∷ []) ∙ sym (map_more (after F.next F.slot s zs) (take k all) m) ∙ ap (map (after F.next F.slot s zs)) (sym n.more);
-        outs = λ s i. subst (λ (l : List ℕ). OutsAt F.next F.slot F.is_out s zs l (outs ++ out ∷ [])) (sym n.more)
-            (outs_more s (take k all) outs m out (u.outs s i) (all_outs F L zs s parts r i c m n.full told out a.stepped.outs jo));
+            (λ j. u.folded s i j ++ one j ∷ []) ∙ sym (map_more (after F.next F.slot s zs) (take k all) m) ∙ ap (map (after F.next F.slot s zs)) (sym n.more);
+        told = λ s i. subst (λ (l : List ℕ). OutsAt F.next F.slot F.is_out s zs l (outs ++ out ∷ [])) (sym n.more)
+            (outs_more s (take k all) outs m out (u.told s i) (all_outs F L zs s parts r i c m n.full told out a.stepped.told jo));
       }
 
   -- what the loop asks of a slot, and what it has after it
@@ -467,7 +503,7 @@ module _ {S I K O : Type 0} (F : Separating S I K O) (L : SeparatingLaws F) (ord
   may_merge s parts k m walks run outs r i c two u l e =
       let n : IsNext parts k m walks = comes_next s parts k m walks run outs r i c u l e in
       record {
-        before = walks_before m parts walks n.full (each_own s parts r i c) n.walks;
+        before = walks_before m parts walks n.full (each_own s parts r i c) n.on;
         beside = λ vs told g. (come_after s parts k m walks vs told r i c n g).beside;
         several = λ vs told g. let same = (come_after s parts k m walks vs told r i c n g).length_same in omega (arith, same, two);
         some = λ vs told g. (come_after s parts k m walks vs told r i c n g).some;

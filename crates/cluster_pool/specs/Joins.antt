@@ -22,7 +22,7 @@ pub record AreNumbers {S I : Type 0} (a b : ℕ) (parts : List (Part S I)) : Typ
 pub record AreOne {S I K : Type 0} (cmp : I → I → Ordering) (key : I → K) (merged : S → S → S) (p q made : Part S I) : Type 0 where
   pub both : Interleaved p.items q.items made.items
   pub rising : Rises cmp key made.items
-  pub made : made ≡ joined merged p q made.items
+  pub is : made ≡ joined merged p q made.items
 
 -- the parts new come from old by joins: they split what old splits, and for each join the counter
 -- rose by no more than the slots of the whole

@@ -22,7 +22,7 @@ pub record Fills {S O : Type 0} (n : ℕ) (w v : Left S O) (told : Option O) : T
   pub slots : w.slots ≡ n ∷ v.slots
   pub states : w.states ≡ v.state ∷ v.states
   pub outs : w.outs ≡ out ∷ v.outs
-  pub told : told ≡ Some out
+  pub tells : told ≡ Some out
 
 -- the part doesn't fill the slot: it rests
 pub record Rests {S I O : Type 0} (next : S → ℕ → List I → S) (n : ℕ) (w v : Left S O) (told : Option O) : Type 0 where
@@ -31,7 +31,7 @@ pub record Rests {S I O : Type 0} (next : S → ℕ → List I → S) (n : ℕ) 
   pub slots : v.slots ≡ w.slots
   pub states : v.states ≡ w.states
   pub outs : v.outs ≡ w.outs
-  pub told : told ≡ None
+  pub tells : told ≡ None
 
 -- what a part does in a slot of the whole
 abbrev pub GoesOn : {S I O : Type 0} → (S → ℕ → List I → S) → ℕ → Left S O → Left S O → Option O → Type 0

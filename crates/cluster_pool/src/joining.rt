@@ -1,5 +1,6 @@
 // Parts that cross, joined two at a time.
-ghost use Rattle.std.specs.Prelude.{◌≡◌, ◌≢◌, ◌⊎◌, ◌<◌, ◌≤◌, ◌+◌, ◌*◌, ℕ, List, [], ◌∷◌, ◌++◌, length, slice_index_or, Contains, MatchOption, IfOk, OnErr};
+ghost use Rattle.std.specs.Prelude.{◌≡◌, ◌≢◌, ◌⊎◌, ◌<◌, ◌≤◌, ◌+◌, ◌*◌, ℕ, List, [], ◌∷◌, ◌++◌, length, slice_index_or, Contains, MatchOption, IfOk, OnOk, OnErr};
+ghost use Rattle.std.specs.Option.{option_to_list};
 ghost use Rattle.std.specs.List.{AllByRecursion};
 ghost use Rattle.late_window.specs.Folding.{Rises, slots};
 ghost use Rattle.span_clusters.specs.Parts.{Part, IsSplitting};
@@ -51,9 +52,22 @@ fn join_pair<F: Separable, L: Ledger>(
     ensures err { OnErr result (steps.new ≡ steps.old) }
 {
     match take_both(done, pair) {
-        Some((one, other)) => Ok(Some(join_parts(alloc, one, other, steps)?)),
+        Some((one, other)) => {
+            let job = join_parts(alloc, one, other, steps)?;
+            Ok(Some(job))
+        }
         None => Ok(None),
     }
+}
+
+// One more job before the others, if there is one.
+fn put_first<F: Fold>(jobs: &mut Vec<Job<F>>, job: Option<Job<F>>) -> Result<(), NoMemory>
+    ensures { OnOk result (jobs.new.items ≡ option_to_list job ++ jobs.old.items) }
+{
+    if let Some(job) = job {
+        jobs.insert(0, job)?;
+    }
+    Ok(())
 }
 
 /// Joins the two parts of each pair, where neither was joined in an earlier pair: gives the jobs
@@ -75,9 +89,8 @@ pub(crate) fn join_all<F: Separable, L: Ledger>(
 {
     let mut jobs = Vec::new(alloc);
     for pair in pairs {
-        if let Some(job) = join_pair(alloc, &mut done, *pair, steps)? {
-            jobs.insert(0, job)?;
-        }
+        let job = join_pair(alloc, &mut done, *pair, steps)?;
+        put_first(&mut jobs, job)?;
     }
     Ok((jobs, done))
 }

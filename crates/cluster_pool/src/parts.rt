@@ -77,7 +77,8 @@ where
         if pairs.is_empty() {
             return Ok(done);
         }
-        let (jobs, left) = join_all(alloc, done, &pairs, steps)?;
-        done = run_again(alloc, pool, jobs, left)?;
+        let (made, left) = join_all(alloc, done, &pairs, steps)?;
+        let next = run_again(alloc, pool, made, left)?;
+        done = next;
     }
 }

@@ -83,7 +83,8 @@ fn walks_of<F: Fold>(alloc: Global, done: Vec<Done<F>>) -> Result<Vec<Walk<F>>, 
 {
     let mut walks = Vec::with_capacity(alloc, done.len())?;
     for part in done {
-        walks.push(walk_of(alloc, part)?)?;
+        let walk = walk_of(alloc, part)?;
+        walks.push(walk)?;
     }
     Ok(walks)
 }
@@ -164,22 +165,41 @@ fn all_gone_on<F: Separable>(
     Ok((after, told))
 }
 
-// The states of at least two parts as one, by halves: so each member is copied as often as the
-// parts can be halved, and not once for each part.
-fn state_of_all<F: Separable>(alloc: Global, walks: &[Walk<F>]) -> Result<F::State, NoMemory>
-    requires several { 2 ≤ length walks.now }
+// The states of two parts as one.
+fn state_of_two<F: Separable>(alloc: Global, walks: &[Walk<F>]) -> Result<F::State, NoMemory>
+    requires two { length walks.now ≡ 2 }
     requires beside { EachPair F.is_beside (left_states walks.now) }
     ensures { IfOk result (λ state. IsJoin F.merged (left_states walks.now) state) }
 {
     let first = &walks[0];
     let second = &walks[1];
+    F::merge(alloc, &first.state, &second.state)
+}
+
+// The states of three parts as one.
+fn state_of_three<F: Separable>(alloc: Global, walks: &[Walk<F>]) -> Result<F::State, NoMemory>
+    requires three { length walks.now ≡ 3 }
+    requires beside { EachPair F.is_beside (left_states walks.now) }
+    ensures { IfOk result (λ state. IsJoin F.merged (left_states walks.now) state) }
+{
+    let (front, back) = walks.split_at(2);
+    let last = &back[0];
+    let two = state_of_two(alloc, front)?;
+    F::merge(alloc, &two, &last.state)
+}
+
+// The states of at least two parts as one, by halves: so a member is copied as often as the parts
+// can be halved, and not once for each part.
+fn state_of_all<F: Separable>(alloc: Global, walks: &[Walk<F>]) -> Result<F::State, NoMemory>
+    requires several { 2 ≤ length walks.now }
+    requires beside { EachPair F.is_beside (left_states walks.now) }
+    ensures { IfOk result (λ state. IsJoin F.merged (left_states walks.now) state) }
+{
     if walks.len() == 2 {
-        return F::merge(alloc, &first.state, &second.state);
+        return state_of_two(alloc, walks);
     }
     if walks.len() == 3 {
-        let third = &walks[2];
-        let two = F::merge(alloc, &first.state, &second.state)?;
-        return F::merge(alloc, &two, &third.state);
+        return state_of_three(alloc, walks);
     }
     let (left, right) = walks.split_at(walks.len() / 2);
     let one = state_of_all(alloc, left)?;
