@@ -9,6 +9,8 @@ mod laws;
 mod numbering;
 mod parts;
 mod splitting;
+#[cfg(test)]
+mod tests;
 mod tracks;
 mod weaving;
 

@@ -6,13 +6,14 @@ ghost use Rattle.plot_geometry.specs.Plots.{PlanePlot};
 ghost use Rattle.track_life.specs.declared.settings.LifeSettings.{LifeSettings};
 ghost use Rattle.track_life.specs.Numbers.{with_number, assigned};
 ghost use Rattle.track_life.specs.Tables.{IsTable};
-ghost use Rattle.late_window.specs.Folding.{Rises, BeforeFirst, states, latest};
+ghost use Rattle.late_window.specs.Folding.{Rises, BeforeFirst, states};
 ghost use Rattle.slot_step.specs.Numbers.{renumbered_from, numbered};
 ghost use Rattle.slot_step.specs.Tracker.{ordered, numbering, step_tracks};
 ghost use Rattle.track_parts.specs.Tracking.{next, slot_of_plot, key_of_plot, by_birth, IsBefore};
 ghost use Rattle.track_parts.specs.Numbered.{living, from_birth, first_number};
 
 use crate::Tracks;
+use late_window::latest_of;
 use std::alloc::Global;
 use track_life::{Table, Track, assign_numbers};
 use trk_base::{Key, NoMemory};
@@ -32,20 +33,10 @@ pub fn numbered_tables(
 {
     let mut tables = Vec::with_capacity(alloc, runs.len())?;
     for run in runs {
-        let table = numbered_table(alloc, last_of(start, &tables).tracks(), run)?;
+        let table = numbered_table(alloc, latest_of(start, &tables).tracks(), run)?;
         tables.push(table)?;
     }
     Ok(tables)
-}
-
-// The last of the tables, or the one that they start from.
-fn last_of<'a>(start: &'a Table, tables: &'a [Table]) -> &'a Table
-    ensures { result.now ≡ latest start.now tables.now }
-{
-    match tables.last() {
-        Some(table) => table,
-        None => start,
-    }
 }
 
 // A run's table with the numbers of the table before, and new ones.
@@ -68,8 +59,15 @@ fn take_numbers(tracks: &mut [Track], before: &[Track])
     let mut rest = before;
     for track in tracks.iter_mut() {
         rest = from_birth(rest, &track.birth);
-        track.number = first_number(rest, &track.birth);
+        take_number(track, rest);
     }
+}
+
+// A track takes the number of the first of these, if that is of its birth.
+fn take_number(track: &mut Track, rest: &[Track])
+    ensures { track.new ≡ with_number (first_number track.old.birth rest.now) track.old }
+{
+    track.number = first_number(rest, &track.birth);
 }
 
 // The tracks from the first on that isn't born before this.
