@@ -7,12 +7,13 @@ use Rattle.std.specs.Ordering.{is_lt, is_eq, ordering_reverse}
 use Rattle.std.specs.declared.cmp.Ordering.{Ordering}
 use Rattle.std.specs.declared.cmp.Ordering.TheVariants.{Less, Equal, Greater}
 use Rattle.std.proofs.lemmas.Bool.{cond_both}
-use Rattle.std.proofs.lemmas.List.{drop-set-lt, drop_all, take_all}
+use Rattle.std.proofs.lemmas.List.{drop-set-lt, drop_all, take_all, length-map}
 use Rattle.std.proofs.Math.Seq.{drop-cons, take-suc-set}
 use Rattle.trk_base.specs.declared.keys.Key.{Key}
 use Rattle.trk_base.specs.Keys.{key_cmp}
 use Rattle.trk_base.specs.KeyOrder.{key_cmp_total}
 use Rattle.track_life.specs.declared.settings.LifeSettings.{LifeSettings}
+use Rattle.track_life.specs.Tables.{IsTable}
 use Rattle.track_life.specs.Tracks.{TrackState}
 use Rattle.track_life.specs.Numbers.{with_number, assigned}
 use Rattle.slot_step.specs.Numbers.{number_of, renumbered_from}
@@ -109,3 +110,14 @@ one_taken rest all ts i t u lt e d h =
 -- after the last one
 pub all_taken : (rest all ts : List TrackState) (i : ℕ) → length ts ≤ i → all ≡ take i ts ++ taken rest (drop i ts) → ts ≡ all
 all_taken rest all ts i le h = sym (h ∙ (λ j. take_all i ts le j ++ taken rest (drop_all i ts le j)) ∙ append-nil ts)
+
+-- a table whose numbers alone change stays one
+births_bare : (ts : List TrackState) → map (λ t. t.birth) (map (with_number None) ts) ≡ map (λ t. t.birth) ts
+births_bare [] = refl
+births_bare (t ∷ ts) = λ i. t.birth ∷ births_bare ts i
+
+pub still_table : (ts us : List TrackState) → map (with_number None) us ≡ map (with_number None) ts → IsTable ts → IsTable us
+still_table ts us e h = record {
+  births = subst (IsStrictlySortedBy key_cmp) (sym (births_bare ts) ∙ ap (map (λ t. t.birth)) (sym e) ∙ births_bare us) h.births;
+  fewer = omega (arith, ap length e, length-map us (with_number None), length-map ts (with_number None), h.fewer);
+}

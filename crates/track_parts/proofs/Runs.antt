@@ -40,9 +40,9 @@ numbered_runs s [] = []
 numbered_runs s (r ∷ rs) = with_numbers s r ∷ numbered_runs (with_numbers s r) rs
 
 parts_length : {X : Type 0} (i : ℕ) (xs : List X) → length (take i xs) + length (drop i xs) ≡ length xs
-parts_length zero xs = refl
-parts_length (suc i) [] = refl
-parts_length (suc i) (x ∷ xs) = ap suc (parts_length i xs)
+parts_length zero xs = omega arith
+parts_length (suc i) [] = omega arith
+parts_length (suc i) (x ∷ xs) = omega (arith, parts_length i xs)
 
 module _ (life : LifeSettings) where
   laws : NumberLaws (tracking life) (ordered life) (numbering assigned)
@@ -76,7 +76,7 @@ module _ (life : LifeSettings) where
       ap (numbered_runs s) (states_group slot_of_plot next AreCertified (living life t) n (x ∷ xs) (begins slot_of_plot next AreCertified (living life t) n (x ∷ xs) rise refl))
       ∙ (λ i. same_step s t n own e i ∷ numbered_runs (same_step s t n own e i) (states next slot_of_plot (living life (run_tracks life t n own)) others))
       ∙ ap (λ (l : List (List TrackState)). step_tracks life s n own ∷ l)
-        (by_slots fuel (step_tracks life s n own) (run_tracks life t n own) others fewer (drop_rises plot_cmp key_of_plot k (x ∷ xs) r) (step_hidden s t n own e))
+      (by_slots fuel (step_tracks life s n own) (run_tracks life t n own) others fewer (drop_rises plot_cmp key_of_plot k (x ∷ xs) r) (step_hidden s t n own e))
       ∙ sym (states_group slot_of_plot (step_tracks life) (AreTold life) s n (x ∷ xs) (begins slot_of_plot (step_tracks life) (AreTold life) s n (x ∷ xs) rise refl))
 
   pub numbered_states : (s : List TrackState) (xs : List PlanePlot) → Rises plot_cmp key_of_plot xs → numbered_runs s (states next slot_of_plot (living life s) xs) ≡ states (step_tracks life) slot_of_plot s xs
@@ -141,7 +141,7 @@ pub record Numbered (s : List TrackState) (all : List Tracks) (tables : List (Li
   pub rising : IsStrictlySortedBy by_birth s → IsStrictlySortedBy by_birth (latest s tables)
 
 pub none_numbered : (s : List TrackState) (all : List Tracks) → Numbered s all [] all
-none_numbered s all = record { count = refl; made = λ r. refl; rising = λ r. r }
+none_numbered s all = record { count = omega arith; made = λ r. refl; rising = λ r. r }
 
 pub one_numbered : (s : List TrackState) (all : List Tracks) (tables : List (List TrackState)) (r : Tracks) (rest : List Tracks) (t : List TrackState) → Numbered s all tables (r ∷ rest)
     → (IsRising (latest s tables) → t ≡ with_numbers (latest s tables) r) → IsTable t → Numbered s all (tables ++ t ∷ []) rest

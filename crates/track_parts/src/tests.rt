@@ -14,7 +14,7 @@ use std::process::Abort;
 use std::sync::ledger::{Blank, Ledger};
 use std::test::Fail;
 use track_life::{LifeSettings, Table};
-use trk_base::{Key, NoMemory, Steps, charge, slot_of};
+use trk_base::{Key, NoMemory, Steps, TryCopy, charge, slot_of};
 
 const LIFE: LifeSettings = LifeSettings {
     hits: 1,
