@@ -1,13 +1,13 @@
 // A span whose numbers were worked by hand.
-ghost use Rattle.std.specs.Prelude.{◌≡◌, ◌≢◌, IsTrue};
+ghost use Rattle.std.specs.Prelude.{◌≡◌, ◌≢◌, IfOk, IsTrue};
 ghost use Rattle.std.specs.List.{AllByRecursion};
-ghost use Rattle.slot_step.specs.Calls.{AreFromBefore};
+ghost use Rattle.slot_step.specs.Calls.{AreBatches};
 ghost use Rattle.track_parts.specs.Tracking.{key_of_plot};
 
 use crate::{PlotFold, Tracks, numbered_certificates, numbered_tables};
 use late_window::{Window, count_slots, run_slots};
 use plot_geometry::PlanePlot;
-use slot_step::{are_slot_plots, batches_of, slot_step};
+use slot_step::{Batch, are_slot_plots, batches_of, slot_step};
 use std::alloc::Global;
 use std::marker::Brand;
 use std::process::Abort;
@@ -85,6 +85,19 @@ fn plots_in(alloc: Global, slot: u64) -> Result<Vec<PlanePlot>, NoMemory> {
     Ok(plots)
 }
 
+// The batches of a slot.
+fn batches_in(
+    rt: &impl Abort,
+    alloc: Global,
+    slot: u64,
+    plots: &[PlanePlot],
+) -> Result<Vec<Batch>, Fail>
+    ensures { IfOk result (λ v. AreBatches slot v.items) }
+{
+    assert!(rt; are_slot_plots(slot, plots));
+    Ok(batches_of(alloc, plots)?)
+}
+
 fn has_numbers(table: &Table, numbers: &[Option<u16>]) -> bool {
     table
         .tracks()
@@ -124,8 +137,7 @@ fn numbers_each<L: Ledger>(
     let mut tables = Vec::new(alloc);
     for slot in 72_000..72_062 {
         let plots = plots_in(alloc, slot)?;
-        assert!(rt; are_slot_plots(slot, &plots));
-        let batches = batches_of(alloc, &plots)?;
+        let batches = batches_in(rt, alloc, slot, &plots)?;
         let mut ticket = charge(1, steps);
         let step = slot_step(alloc, &table, slot, &batches, &LIFE, &mut ticket)?;
         if !plots.is_empty() {
