@@ -1,5 +1,5 @@
 -- The fold with numbers beside the one without: the tables of both differ in numbers alone.
-use Rattle.std.proofs.Common.{◌≡◌, ◌∙◌, ap, sym, refl, ℕ, zero, suc, ◌+◌, ◌<◌, ◌≤◌, List, [], ◌∷◌, ◌++◌, length, take, drop, map, None, arith, append-nil, append_assoc, length-append, subst}
+use Rattle.std.proofs.Common.{◌≡◌, ◌∙◌, ap, sym, refl, ℕ, zero, suc, ◌+◌, ◌≤◌, List, [], ◌∷◌, ◌++◌, length, take, drop, map, None, arith, append-nil, append_assoc, length-append, subst}
 use Rattle.std.specs.List.{AllByRecursion}
 use Rattle.std.specs.List.Sorted.{IsStrictlySortedBy}
 use Rattle.trk_base.specs.Keys.{key_cmp}
@@ -11,7 +11,7 @@ use Rattle.track_life.specs.Tables.{IsTable}
 use Rattle.track_life.specs.Numbers.{with_number, assigned}
 use Rattle.track_life.proofs.Numbering.{bare_assigned}
 use Rattle.late_window.specs.Folding.{Rises, at_slot, stepped, before, slots, states, latest, group_count, BeforeFirst, OutsAt}
-use Rattle.late_window.proofs.Groups.{SlotsRise, BeginsWith, Begins, begins, drop_rises, group_some, slots_rise, states_group}
+use Rattle.late_window.proofs.Groups.{SlotsRise, begins, drop_rises, group_some, slots_rise, states_group}
 use Rattle.late_window.proofs.Latest.{latest_append}
 use Rattle.slot_step.specs.declared.certs.KeyedCert.{KeyedCert}
 use Rattle.slot_step.specs.Numbers.{NumberLaws, numbered}

@@ -1,7 +1,7 @@
 -- Certificates don't tell numbers: tables that differ in numbers alone have the same.
 use Rattle.std.proofs.Common.{◌≡◌, ◌∙◌, ap, sym, refl, ℕ, zero, suc, List, [], ◌∷◌, map, get_or, drop, Option, Some, None, IsSome, subst, inl, inr}
 use Rattle.std.specs.Prelude.{Contains}
-use Rattle.std.specs.List.{AllByRecursion, AllZip}
+use Rattle.std.specs.List.{AllZip}
 use Rattle.plot_geometry.specs.Plots.{PlanePlot}
 use Rattle.track_life.specs.declared.settings.LifeSettings.{LifeSettings}
 use Rattle.track_life.specs.Tracks.{TrackState}
@@ -11,7 +11,7 @@ use Rattle.slot_step.specs.declared.certs.KeyedCert.{KeyedCert}
 use Rattle.slot_step.specs.Batches.{Tracking, entries, least, of_radar, table_at}
 use Rattle.slot_step.specs.Slots.{Ordered, OrderLaws, plot_radar, unexpired, batch_table}
 use Rattle.slot_step.specs.Numbers.{Numbering, NumberLaws, without_numbers}
-use Rattle.slot_step.specs.Certificates.{Certificate, plots, ShareGate, IsGateWalk, AreJoined, GatesOneOf, IsAt, IsGateAt, IsPairedWith, IsPairedAs, IsCertificateOf, IsCertificateIn, AreCertificates}
+use Rattle.slot_step.specs.Certificates.{Certificate, plots, ShareGate, IsGateWalk, AreJoined, GatesOneOf, IsAt, IsGateAt, IsPairedAs, IsCertificateOf, IsCertificateIn, AreCertificates}
 use Rattle.slot_step.specs.Told.{AreTold}
 use Rattle.slot_step.specs.Tracker.{tracking, ordered, numbering}
 use Rattle.slot_step.proofs.Interleavings.{all_weaker, contains_cons, contains_first, contains_later, contains_none}

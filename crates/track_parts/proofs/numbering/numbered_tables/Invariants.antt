@@ -1,8 +1,5 @@
-use Rattle.std.proofs.Common.{◌≡◌, ◌+◌, ◌++◌, length}
-use Rattle.std.specs.List.Sorted.{IsStrictlySortedBy}
+use Rattle.std.proofs.Common.{◌≡◌, length}
 use Rattle.std.specs.Vec.Iter.{into_iter_items, into_iter_len}
-use Rattle.late_window.specs.Folding.{latest}
-use Rattle.track_parts.specs.Tracking.{by_birth}
 use Rattle.track_parts.proofs.Runs.{Numbered}
 use Rattle.track_parts.proofs.numbering.numbered_tables.Given as goal
 
