@@ -9,6 +9,7 @@ ghost use Rattle.tracker_engine.specs.Engines.{StandsFor};
 
 use crate::Engine;
 use admission_log::{Log, Settings};
+use cluster_pool::Inline;
 use edition_form::{Built, Edition, Pictured};
 use plot_geometry::{Bias, RadarSettings};
 use std::alloc::Global;
@@ -340,7 +341,7 @@ fn advance<L: Ledger>(
     let (_, rest) = log.events().split_at(from);
     let (events, _) = rest.split_at(cut - from);
     engine.absorb(events)?;
-    engine.settle(steps)?;
+    engine.settle(&mut Inline::<HostRuntime>::new(), 1, steps)?;
     let pictured = engine.pictured(number)?;
     let prices = engine.prices(number)?;
     let Built { edition, shown } = engine.edition(number)?;
