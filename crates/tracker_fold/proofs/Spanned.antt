@@ -1,22 +1,23 @@
 -- Entries that are all plots of known radars are folded as their plots are.
-use Rattle.std.proofs.Common.{◌≡◌, ◌∙◌, ap, sym, subst, refl, ℕ, zero, suc, true, List, [], ◌∷◌, map, Option, Some, None, eqb}
+use Rattle.std.proofs.Common.{◌≡◌, ◌∙◌, ap, sym, subst, refl, ℕ, zero, suc, ◌+◌, ◌<◌, true, List, [], ◌∷◌, ◌++◌, length, map, take, get_or, Option, Some, None, eqb, arith}
 use Rattle.std.specs.Prelude.{IfSome, IsSome}
 use Rattle.std.specs.List.{AllByRecursion, cons_option}
 use Rattle.std.specs.List.Sorted.{IsStrictlySortedBy}
-use Rattle.std.specs.Ordering.{ordering_then}
-use Rattle.std.specs.declared.cmp.Ordering.TheVariants.{Less}
+use Rattle.std.specs.declared.cmp.Ordering.{Ordering}
+use Rattle.std.specs.declared.cmp.Ordering.TheVariants.{Less, Equal}
 use Rattle.std.proofs.lemmas.Cmp.{tied_itself}
+use Rattle.std.proofs.lemmas.List.{take_more}
 use Rattle.trk_base.specs.declared.keys.Key.{Key}
 use Rattle.trk_base.specs.Keys.{key_cmp}
 use Rattle.trk_base.specs.KeyOrder.{key_cmp_total}
 use Rattle.plot_geometry.specs.declared.radars.RadarSettings.{RadarSettings}
 use Rattle.plot_geometry.specs.Plots.{PlanePlot}
-use Rattle.plot_geometry.specs.PlotOrder.{plot_cmp}
+use Rattle.plot_geometry.specs.PlotOrder.{plot_cmp, key_first}
 use Rattle.price_form.specs.Certificates.{IsCert}
 use Rattle.track_life.specs.declared.settings.LifeSettings.{LifeSettings}
 use Rattle.track_life.specs.Tracks.{TrackState}
 use Rattle.late_window.specs.Folding.{ComesBefore, Rises, at_slot, stepped, before, after, with_slot, slots, states, BeforeFirst, OutsAt, AreOutsOf}
-use Rattle.late_window.proofs.Lists.{filter_keeps}
+use Rattle.late_window.proofs.Lists.{all_append, filter_keeps}
 use Rattle.slot_step.specs.declared.certs.KeyedCert.{KeyedCert}
 use Rattle.slot_step.specs.Calls.{AreFromBefore}
 use Rattle.slot_step.specs.Told.{AreTold}
@@ -57,13 +58,32 @@ module _ (radars : List RadarSettings) where
   radars_kept (Bias slot place radar bias ∷ es) h = absurd (let none = h.0 in cc)
   radars_kept (Plot key raw ∷ es) h = radars_kept es h.1
 
+  -- ---- one entry more
+
+  pub all_more : (es : List Entry) (i : ℕ) (e : Entry) (p : PlanePlot) → i < length es → e ≡ get_or es i e → plane radars e ≡ Some p → AreAllPlots radars (take i es) → AreAllPlots radars (take (i + 1) es)
+  all_more es i e p lt is told all =
+      subst (AreAllPlots radars) (ap (λ x. take i es ++ x ∷ []) is ∙ sym (take_more es i e lt))
+      (all_append (λ e. IsSome (plane radars e)) (take i es) (e ∷ []) all (subst (λ (x : Option PlanePlot). IsSome x) (sym told) refl, tt))
+
+  all_at : (P : Entry → Type 0) (es : List Entry) (i : ℕ) (d : Entry) → i < length es → AllByRecursion P es → P (get_or es i d)
+  all_at P [] i d lt h = absurd (omega (arith, lt))
+  all_at P (e ∷ es) zero d lt h = h.0
+  all_at P (e ∷ es) (suc i) d lt h = all_at P es i d (omega (arith, lt)) h.1
+
+  pub not_all : (es : List Entry) (i : ℕ) (e : Entry) → i < length es → e ≡ get_or es i e → plane radars e ≡ None → AreAllPlots radars es → ⊥
+  not_all es i e lt is told all =
+      none_some (subst (λ (x : Option PlanePlot). IsSome x) (ap (plane radars) (sym is) ∙ told) (all_at (λ e. IsSome (plane radars e)) es i e lt all))
+    where
+      none_some : IsSome {T = PlanePlot} None → ⊥
+      none_some h = cc
+
 -- ---- order
 
 comes_before : (p q : PlanePlot) → key_cmp p.key q.key ≡ Less → ComesBefore plot_cmp (λ (p : PlanePlot). p.key) p q
-comes_before p q less = record {
-  order = ap (λ o. ordering_then o _) less;
-  keys = λ e. (let tied = tied_itself key_cmp_total p.key in let same : key_cmp p.key p.key ≡ Less = ap (key_cmp p.key) e ∙ less in cc);
-}
+comes_before p q less = record { order = key_first p q (λ e. not_both _ e less) ∙ less; keys = λ e. not_both _ (tied_itself key_cmp_total p.key) (ap (key_cmp p.key) e ∙ less) }
+  where
+    not_both : (o : Ordering) → o ≡ Equal → o ≡ Less → ⊥
+    not_both o e f = cc
 
 all_before : (p : PlanePlot) (ps : List PlanePlot) → AllByRecursion (λ q. key_cmp p.key q.key ≡ Less) ps → AllByRecursion (ComesBefore plot_cmp (λ (p : PlanePlot). p.key) p) ps
 all_before p [] h = tt
@@ -145,11 +165,14 @@ module _ (s : TrackerState) (es : List Entry) (all : AreAllPlots s.radars es) wh
   abbrev State : Type 0
   State = LifeSettings × (List TrackState × List PlanePlot)
 
-  same_step : (n : ℕ) → (λ (t : TrackerState). (t.life, (t.table, planes (radars_after t.radars (entries_at n)) (entries_at n)))) (before next slot_in s es n)
-      ≡ (s.life, (before (step_tracks s.life) slot_of_plot s.table plots n, at_slot slot_of_plot n plots))
-  same_step n =
-      ap (λ (t : TrackerState). (t.life, (t.table, planes (radars_after t.radars (entries_at n)) (entries_at n)))) (before_is n)
-      ∙ ap (λ (ps : List PlanePlot). (s.life, (before (step_tracks s.life) slot_of_plot s.table plots n, ps))) (plotted_at n)
+  abbrev read : ℕ → TrackerState → State
+  read n t = (t.life, (t.table, planes (radars_after t.radars (entries_at n)) (entries_at n)))
+
+  abbrev folded : ℕ → List PlanePlot → State
+  folded n ps = (s.life, (before (step_tracks s.life) slot_of_plot s.table plots n, ps))
+
+  same_step : (n : ℕ) → read n (before next slot_in s es n) ≡ folded n (at_slot slot_of_plot n plots)
+  same_step n = ap (read n) (before_is n) ∙ ap (folded n) (plotted_at n)
 
   out_at : (n : ℕ) (certs : List KeyedCert) → AreTold s.life (before (step_tracks s.life) slot_of_plot s.table plots n) n (at_slot slot_of_plot n plots) certs → AllByRecursion (λ c. IsCert c.cert) certs
       → IsOut (before next slot_in s es n) n (entries_at n) certs

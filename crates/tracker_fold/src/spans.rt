@@ -1,6 +1,6 @@
 // A span of entries as plots, and what is folded of them as states again.
 ghost use Rattle.std.specs.Prelude.{◌≡◌, ◌↔◌, map, IfOk, IfSome, IsSome};
-ghost use Rattle.tracker_fold.specs.Spans.{AreAllPlots, AreWhole, with_table};
+ghost use Rattle.tracker_fold.specs.Spans.{AreAllPlots, AreWhole};
 ghost use Rattle.tracker_fold.specs.Steps.{planes};
 
 use crate::step::plane;
@@ -9,7 +9,7 @@ use admission_log::Entry;
 use plot_geometry::{PlanePlot, RadarSettings};
 use slot_step::KeyedCert;
 use std::alloc::Global;
-use track_life::Table;
+use track_life::{LifeSettings, Table};
 use trk_base::{NoMemory, Sequence, TryCopy};
 
 /// The plots of entries in the plane, by these radars, in the order of the entries. `None` where an
@@ -32,20 +32,22 @@ pub fn span_plots(
     Ok(Some(plots))
 }
 
-/// The states with these tracks: all else is that of the state that the span began with, since its
-/// entries change no biases.
+/// The states with these tracks. All else is that of the state that the span began with, since its
+/// entries change no biases: how long tracks live, and the radars.
 pub fn span_states(
     alloc: Global,
-    start: &TrackerState,
+    life: LifeSettings,
+    radars: &Sequence<RadarSettings>,
     tables: Vec<Table>,
 ) -> Result<Vec<TrackerState>, NoMemory>
-    ensures { IfOk result (λ v. v.items ≡ map (with_table start.now) tables.items) }
+    ensures { IfOk result (λ v. v.items ≡ map (λ ts. record { life = life; radars = radars.now; table = ts }) tables.items) }
 {
     let mut states = Vec::with_capacity(alloc, tables.len())?;
     for table in tables {
+        let radars = radars.copy(alloc)?;
         states.push(TrackerState {
-            life: start.life,
-            radars: start.radars.copy(alloc)?,
+            life,
+            radars,
             table,
         })?;
     }
