@@ -1,3 +1,6 @@
 pub mod TwoLists
 pub mod Picks
 pub mod Stepping
+pub mod Unread
+pub mod Runs
+pub mod Renumbered

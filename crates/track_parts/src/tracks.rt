@@ -51,6 +51,13 @@ impl Tracks {
         &self.table
     }
 
+    /// The tracks as a table, to keep. It takes no memory.
+    pub fn into_table(self) -> Table
+        ensures { result ≡ self.table }
+    {
+        self.table
+    }
+
     /// The tracks, to read.
     pub fn tracks(&self) -> &[Track]
         ensures value { result.now ≡ self.now.table }
