@@ -14,6 +14,7 @@ ghost use Rattle.tracker_engine.specs.Counts.{IsCertificateCount};
 ghost use Rattle.tracker_engine.specs.Spans.{AreSpan};
 
 use crate::absorbing::{entries_of, note_all};
+use crate::settling::settle_window;
 use crate::showing::{append_prices, biases_at, certs_from, count_certs};
 use admission_log::{Event, Settings};
 use cluster_pool::Pool;
@@ -98,8 +99,10 @@ impl Engine {
     }
 
     /// Brings the tracks up to the last tick: each filled slot that is over, from the first that is new
-    /// or was reopened on. It takes at most 31 steps for each of them, also where it fails. After an
-    /// error the engine is as it was.
+    /// or was reopened on. With a wish above 1 they are folded in up to that many parts by the pool,
+    /// where no biases change among them, and else in place; the wish and the pool change nothing of
+    /// what comes of it. It takes at most 31 steps for each of the slots, also where it fails. After
+    /// an error the engine is as it was.
     pub fn settle<P: Pool, L: Ledger>(
         &mut self,
         pool: &mut P,
@@ -114,7 +117,8 @@ impl Engine {
         ensures bound { (settings : Settings) (log : History) (settled before : ℕ) (slots : List ℕ) → StandsFor settings log settled before self.old → AreSpan log settled slots → steps.new ≤ steps.old + 31 * length slots }
     {
         let low = self.low();
-        self.window.settle(slot_of(self.last), steps)?;
+        let upto = slot_of(self.last);
+        settle_window(self.alloc, &mut self.window, upto, pool, wish, steps)?;
         self.window.close_below(low);
         Ok(())
     }

@@ -90,7 +90,7 @@ pub fn count_certs(low: u64, outs: &[(u64, PricedCerts)]) -> Result<u64, NoMemor
 {
     let mut count: u64 = 0;
     for (slot, told) in outs {
-        if low <= *slot {
+        if *slot >= low {
             let more = told.certs().len() as u64;
             count = count.checked_add(more).ok_or(NoMemory)?;
         }

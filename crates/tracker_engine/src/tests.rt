@@ -410,9 +410,7 @@ fn follow<P: Pool, L: Ledger>(
     let mut number = 1;
     for row in rows {
         assert!(rt; from < row.cut && row.cut <= log.events().len() && number < 9);
-        let advanced = advance(
-            &mut engine, log, from, row.cut, number, pool, wish, steps,
-        )?;
+        let advanced = advance(&mut engine, log, from, row.cut, number, pool, wish, steps)?;
         assert!(rt; is_told(&advanced.edition, engine.table().tracks(), row));
         assert!(rt; agrees(&advanced));
         from = row.cut;
@@ -464,4 +462,16 @@ fn tells_late_plots_in_their_place(rt: HostRuntime) -> Result<(), Fail> {
 fn tells_two_radars(rt: HostRuntime) -> Result<(), Fail> {
     let settings = two_radars(rt.alloc())?;
     tells::<_, Brand>(&rt, rt.alloc(), settings, &REVERSE, 1, Blank::new(1))
+}
+
+#[test]
+fn tells_editions_in_parts(rt: HostRuntime) -> Result<(), Fail> {
+    for case in &ROWS {
+        let settings = one_radar(rt.alloc(), 1)?;
+        tells::<_, Brand>(&rt, rt.alloc(), settings, case, 4, Blank::new(1))?;
+    }
+    let settings = one_radar(rt.alloc(), 3)?;
+    tells::<_, Brand>(&rt, rt.alloc(), settings, &LATE, 4, Blank::new(1))?;
+    let settings = two_radars(rt.alloc())?;
+    tells::<_, Brand>(&rt, rt.alloc(), settings, &REVERSE, 4, Blank::new(1))
 }
