@@ -4,6 +4,7 @@ pub mod Editions
 pub mod Entering
 pub mod Hearing
 pub mod Members
+pub mod Parted
 pub mod Pricing
 pub mod Slots
 pub mod Standing

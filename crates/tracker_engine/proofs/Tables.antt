@@ -1,11 +1,12 @@
 -- What an engine shows where all of its log is settled.
-use Rattle.std.proofs.Common.{◌≡◌, ◌∙◌, ap, sym, refl, subst, ℕ, suc, ◌+◌, ◌^◌, ◌≤◌, ◌<◌, Bool, true, false, cond, eqb, leb, List, [], ◌∷◌, length, map, Some, arith}
-use Rattle.std.specs.Prelude.{filter, nat_le, slice_get, flat_map}
+use Rattle.std.proofs.Common.{◌≡◌, ◌∙◌, ap, sym, refl, subst, ℕ, suc, ◌+◌, ◌^◌, ◌≤◌, ◌<◌, Bool, true, false, cond, eqb, leb, List, [], ◌∷◌, length, map, Some, Result, Ok, Err, arith}
+use Rattle.std.specs.Prelude.{filter, nat_le, slice_get, flat_map, IfOk}
 use Rattle.std.specs.Option.{option_map}
 use Rattle.std.specs.List.{AllByRecursion, enumerate_from}
 use Rattle.std.proofs.lemmas.Bool.{cond_both, eq-eqb, le-leb, leb-true}
 use Rattle.std.proofs.lemmas.List.Folds.{flat_map-map}
 use Rattle.std.proofs.lemmas.List.Sorted.{IsPermutation-sym}
+use Rattle.trk_base.specs.declared.memory.NoMemory.{NoMemory}
 use Rattle.trk_base.specs.Numbers.{slot_of}
 use Rattle.plot_geometry.specs.declared.biases.Bias.{Bias}
 use Rattle.plot_geometry.specs.declared.radars.RadarSettings.{RadarSettings}
@@ -31,6 +32,7 @@ use Rattle.tracker_fold.proofs.Certified.{certificates_are}
 use Rattle.edition_form.specs.Folding.{table_of}
 use Rattle.edition_form.specs.Radars.{biases_of}
 use Rattle.edition_form.specs.Certificates.{AreLogCertificates}
+use Rattle.tracker_engine.specs.Counts.{IsCertificateCount}
 use Rattle.tracker_engine.specs.Engines.{EngineState, StandsFor}
 use Rattle.tracker_engine.proofs.Members.{has_of, of_has, has_moved, all_of, rise_of, of_rise, rise_filter}
 use Rattle.tracker_engine.proofs.Slots.{whole_settled, settled_over, settled_filled}
@@ -166,3 +168,10 @@ module _ (settings : Settings) (log : History) (before : ℕ) (e : EngineState) 
 
   pub certs_whole : (certs : List Cert) → certs ≡ flat_map (λ o. map (λ k. k.cert) o.1) (filter (λ o. nat_le (low_at e.settings.window e.last) o.0) e.window.outs) → AllByRecursion IsCert certs
   certs_whole certs is = subst (AllByRecursion IsCert) (sym is) (all_whole (nat_le (low_at e.settings.window e.last)) settings all e.window.outs s.entries.outs)
+
+  pub certs_counted : (low : ℕ) (outs : List (ℕ × List KeyedCert)) → low ≡ low_at e.settings.window e.last → outs ≡ e.window.outs
+      → (r : Result ℕ NoMemory) → IfOk r (λ n. n ≡ length (flat_map (λ o. map (λ k. k.cert) o.1) (filter (λ o. nat_le low o.0) outs))) → IfOk r (IsCertificateCount settings log)
+  certs_counted low outs low_is outs_is (Err x) h = tt
+  certs_counted low outs low_is outs_is (Ok n) h =
+      let certs = flat_map (λ o. map (λ k. k.cert) o.1) (filter (λ o. nat_le (low_at e.settings.window e.last) o.0) e.window.outs) in
+      record { certs = certs; certificates = certs_shown certs refl; count_is = h ∙ (λ i. length (flat_map (λ o. map (λ k. k.cert) o.1) (filter (λ o. nat_le (low_is i) o.0) (outs_is i)))) }

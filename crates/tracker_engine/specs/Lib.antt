@@ -1,3 +1,4 @@
 pub mod Hearing
 pub mod Spans
 pub mod Engines
+pub mod Counts

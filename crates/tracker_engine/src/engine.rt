@@ -10,12 +10,15 @@ ghost use Rattle.edition_form.specs.Editions.{IsEdition};
 ghost use Rattle.edition_form.specs.Folding.{table_of};
 ghost use Rattle.edition_form.specs.Prices.{ArePricesOf};
 ghost use Rattle.tracker_engine.specs.Engines.{StandsFor, Continues, IsAllSettled, with_events};
+ghost use Rattle.tracker_engine.specs.Counts.{IsCertificateCount};
 ghost use Rattle.tracker_engine.specs.Spans.{AreSpan};
 
 use crate::absorbing::{entries_of, note_all};
-use crate::showing::{append_prices, biases_at, certs_from};
+use crate::settling::settle_window;
+use crate::showing::{append_prices, biases_at, certs_from, count_certs};
 use admission_log::{Event, Settings};
-use edition_form::{Built, Pictured, ShownLine, build, pictured};
+use cluster_pool::Pool;
+use edition_form::{Built, Edition, Pictured, ShownLine, pictured};
 use late_window::Window;
 use price_form::write_edition;
 use std::alloc::Global;
@@ -24,7 +27,7 @@ use std::sync::Arc;
 use std::sync::ledger::Ledger;
 use track_life::Table;
 use tracker_fold::{TrackerFold, TrackerState};
-use trk_base::{NoMemory, Steps, slot_of};
+use trk_base::{NoMemory, Sequence, Steps, slot_of};
 
 /// The tracker over the events of one log. It stands for the events that it has taken in
 /// (`StandsFor`), and keeps none of them.
@@ -96,16 +99,26 @@ impl Engine {
     }
 
     /// Brings the tracks up to the last tick: each filled slot that is over, from the first that is new
-    /// or was reopened on. It takes at most 31 steps for each of them, also where it fails. After an
-    /// error the engine is as it was.
-    pub fn settle<L: Ledger>(&mut self, steps: &mut Steps<L>) -> Result<(), NoMemory>
+    /// or was reopened on. With a wish above 1 they are folded in up to that many parts by the pool,
+    /// where no biases change among them, and else in place; the wish and the pool change nothing of
+    /// what comes of it. It takes at most 31 steps for each of the slots, also where it fails. After
+    /// an error the engine is as it was.
+    pub fn settle<P: Pool, L: Ledger>(
+        &mut self,
+        pool: &mut P,
+        wish: u8,
+        steps: &mut Steps<L>,
+    ) -> Result<(), NoMemory>
+        requires least { 1 ≤ wish }
+        requires most { wish ≤ 16 }
         ensures stands { (settings : Settings) (log : History) (settled before : ℕ) → StandsFor settings log settled before self.old → OnOk result (StandsFor settings log (length log.events) before self.new) }
         ensures err { OnErr result (self.new ≡ self.old) }
         ensures rises { steps.old ≤ steps.new }
         ensures bound { (settings : Settings) (log : History) (settled before : ℕ) (slots : List ℕ) → StandsFor settings log settled before self.old → AreSpan log settled slots → steps.new ≤ steps.old + 31 * length slots }
     {
         let low = self.low();
-        self.window.settle(slot_of(self.last), steps)?;
+        let upto = slot_of(self.last);
+        settle_window(self.alloc, &mut self.window, upto, pool, wish, steps)?;
         self.window.close_below(low);
         Ok(())
     }
@@ -128,27 +141,19 @@ impl Engine {
         ensures shown { (settings : Settings) (log : History) (before : ℕ) → StandsFor settings log (length log.events) before self.now → IfOk result (λ b. b.shown ≡ shown_of settings log) }
         ensures whole { (settings : Settings) (log : History) (before : ℕ) → StandsFor settings log (length log.events) before self.now → IfOk result (λ b. All IsCert b.edition.certs) }
     {
-        let state = self.window.state();
-        let biases = biases_at(
-            self.alloc,
-            state.radars.as_slice(),
-            slot_of(self.last),
-            self.window.items(),
-        )?;
+        let Pictured { datagrams, shown } = self.pictured(number)?;
         let certs = certs_from(self.alloc, self.low(), self.window.outs())?;
-        build(
-            self.alloc,
-            &self.settings,
-            &biases,
-            &state.table,
-            &self.services,
-            self.last,
-            number,
-            self.count,
-            self.before,
-            &self.shown,
-            certs,
-        )
+        Ok(Built {
+            edition: Edition {
+                number,
+                cut: self.count,
+                before: self.before,
+                time: self.last,
+                datagrams,
+                certs: Sequence::of(certs),
+            },
+            shown,
+        })
     }
 
     /// What the edition of all events that were taken in shows, which are settled: its datagrams, and
@@ -175,6 +180,14 @@ impl Engine {
             number,
             &self.shown,
         )
+    }
+
+    /// How many certificates the edition of all events that were taken in has, which are settled. None
+    /// of them is copied. More than can be counted is told as want of memory.
+    pub fn certificate_count(&self) -> Result<u64, NoMemory>
+        ensures { (settings : Settings) (log : History) (before : ℕ) → StandsFor settings log (length log.events) before self.now → IfOk result (IsCertificateCount settings log) }
+    {
+        count_certs(self.low(), self.window.outs())
     }
 
     /// What a price file has of the edition of all events that were taken in, which are settled: the

@@ -83,6 +83,21 @@ fn append_certs(alloc: Global, told: &[KeyedCert], certs: &mut Vec<Cert>) -> Res
     Ok(())
 }
 
+/// How many certificates the slots from `low` on have. More than can be counted can't be kept in
+/// memory.
+pub fn count_certs(low: u64, outs: &[(u64, PricedCerts)]) -> Result<u64, NoMemory>
+    ensures { IfOk result (λ n. n ≡ length (flat_map (λ o. map (λ k. k.cert) o.1) (filter (λ o. nat_le low o.0) outs.now))) }
+{
+    let mut count: u64 = 0;
+    for (slot, told) in outs {
+        if *slot >= low {
+            let more = told.certs().len() as u64;
+            count = count.checked_add(more).ok_or(NoMemory)?;
+        }
+    }
+    Ok(count)
+}
+
 /// Puts what a price file has of the certificates of the slots from `low` on after other octets.
 pub fn append_prices(
     low: u64,

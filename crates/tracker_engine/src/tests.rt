@@ -9,6 +9,7 @@ ghost use Rattle.tracker_engine.specs.Engines.{StandsFor};
 
 use crate::Engine;
 use admission_log::{Log, Settings};
+use cluster_pool::{Inline, Pool};
 use edition_form::{Built, Edition, Pictured};
 use plot_geometry::{Bias, RadarSettings};
 use std::alloc::Global;
@@ -17,6 +18,7 @@ use std::process::Abort;
 use std::sync::Arc;
 use std::sync::ledger::{Blank, Ledger};
 use std::test::Fail;
+use std::thread::Threads;
 use track_life::{LifeSettings, Track};
 use trk_base::{NoMemory, Sequence, Steps};
 
@@ -323,14 +325,18 @@ struct Advanced {
 }
 
 // Takes in the events of the log up to a cut, settles, tells the edition, and shows it.
-fn advance<L: Ledger>(
+fn advance<P: Pool, L: Ledger>(
     engine: &mut Engine,
     log: &Log,
     from: usize,
     cut: usize,
     number: u64,
+    pool: &mut P,
+    wish: u8,
     steps: &mut Steps<L>,
 ) -> Result<Advanced, NoMemory>
+    requires least { 1 ≤ wish }
+    requires most { wish ≤ 16 }
     requires stands { (settings : Settings) × (before : ℕ) × IsLegal settings log.now × StandsFor settings (first from log.now) from before engine.old }
     requires later { from < cut }
     requires within { cut ≤ length log.now.events }
@@ -340,7 +346,7 @@ fn advance<L: Ledger>(
     let (_, rest) = log.events().split_at(from);
     let (events, _) = rest.split_at(cut - from);
     engine.absorb(events)?;
-    engine.settle(steps)?;
+    engine.settle(pool, wish, steps)?;
     let pictured = engine.pictured(number)?;
     let prices = engine.prices(number)?;
     let Built { edition, shown } = engine.edition(number)?;
@@ -386,21 +392,25 @@ fn is_told(edition: &Edition, tracks: &[Track], row: &Told) -> bool {
 }
 
 // Goes through the editions of a log.
-fn follow<L: Ledger>(
+fn follow<P: Pool, L: Ledger>(
     rt: &impl Abort,
     engine: Engine,
     log: &Log,
     rows: &[Told],
+    pool: &mut P,
+    wish: u8,
     steps: &mut Steps<L>,
 ) -> Result<(), Fail>
-    requires { (settings : Settings) × (before : ℕ) × IsLegal settings log.now × StandsFor settings (first 0 log.now) 0 before engine }
+    requires least { 1 ≤ wish }
+    requires most { wish ≤ 16 }
+    requires stands { (settings : Settings) × (before : ℕ) × IsLegal settings log.now × StandsFor settings (first 0 log.now) 0 before engine }
 {
     let mut engine = engine;
     let mut from = 0;
     let mut number = 1;
     for row in rows {
         assert!(rt; from < row.cut && row.cut <= log.events().len() && number < 9);
-        let advanced = advance(&mut engine, log, from, row.cut, number, steps)?;
+        let advanced = advance(&mut engine, log, from, row.cut, number, pool, wish, steps)?;
         assert!(rt; is_told(&advanced.edition, engine.table().tracks(), row));
         assert!(rt; agrees(&advanced));
         from = row.cut;
@@ -409,13 +419,16 @@ fn follow<L: Ledger>(
     Ok(())
 }
 
-fn tells<L: Ledger>(
-    rt: &impl Abort,
+fn tells<R: Abort + Threads + Sync, L: Ledger>(
+    rt: &R,
     alloc: Global,
     settings: Settings,
     case: &Case,
+    wish: u8,
     blank: Blank,
 ) -> Result<(), Fail>
+    requires least { 1 ≤ wish }
+    requires most { wish ≤ 16 }
     requires name { blank.name ≡ L.name }
     requires parts { blank.parts ≡ L.parts }
     requires one { blank.parts ≡ 1 }
@@ -425,15 +438,16 @@ fn tells<L: Ledger>(
         take(rt, &settings, &mut log, *item);
     }
     let engine = Engine::new(alloc, Arc::new(alloc, settings)?, log.start())?;
+    let mut pool = Inline::<R>::new();
     let mut steps = Steps::<L>::new(blank);
-    follow(rt, engine, &log, case.told, &mut steps)
+    follow(rt, engine, &log, case.told, &mut pool, wish, &mut steps)
 }
 
 #[test]
 fn tells_editions(rt: HostRuntime) -> Result<(), Fail> {
     for case in &ROWS {
         let settings = one_radar(rt.alloc(), 1)?;
-        tells::<Brand>(&rt, rt.alloc(), settings, case, Blank::new(1))?;
+        tells::<_, Brand>(&rt, rt.alloc(), settings, case, 1, Blank::new(1))?;
     }
     Ok(())
 }
@@ -441,11 +455,23 @@ fn tells_editions(rt: HostRuntime) -> Result<(), Fail> {
 #[test]
 fn tells_late_plots_in_their_place(rt: HostRuntime) -> Result<(), Fail> {
     let settings = one_radar(rt.alloc(), 3)?;
-    tells::<Brand>(&rt, rt.alloc(), settings, &LATE, Blank::new(1))
+    tells::<_, Brand>(&rt, rt.alloc(), settings, &LATE, 1, Blank::new(1))
 }
 
 #[test]
 fn tells_two_radars(rt: HostRuntime) -> Result<(), Fail> {
     let settings = two_radars(rt.alloc())?;
-    tells::<Brand>(&rt, rt.alloc(), settings, &REVERSE, Blank::new(1))
+    tells::<_, Brand>(&rt, rt.alloc(), settings, &REVERSE, 1, Blank::new(1))
+}
+
+#[test]
+fn tells_editions_in_parts(rt: HostRuntime) -> Result<(), Fail> {
+    for case in &ROWS {
+        let settings = one_radar(rt.alloc(), 1)?;
+        tells::<_, Brand>(&rt, rt.alloc(), settings, case, 4, Blank::new(1))?;
+    }
+    let settings = one_radar(rt.alloc(), 3)?;
+    tells::<_, Brand>(&rt, rt.alloc(), settings, &LATE, 4, Blank::new(1))?;
+    let settings = two_radars(rt.alloc())?;
+    tells::<_, Brand>(&rt, rt.alloc(), settings, &REVERSE, 4, Blank::new(1))
 }

@@ -7,4 +7,5 @@ pub mod Moving
 pub mod Planes
 pub mod Plots
 pub mod SameOrder
+pub mod Spanned
 pub mod Starting

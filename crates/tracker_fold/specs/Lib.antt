@@ -5,4 +5,5 @@ pub mod Laws
 pub mod PlaneOrder
 pub mod Priced
 pub mod Starts
+pub mod Spans
 pub mod Steps

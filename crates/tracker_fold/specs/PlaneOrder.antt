@@ -65,7 +65,7 @@ module _ (f : Entry → Option PlanePlot) (own : (e : Entry) → IfSome (f e) (H
 -- ---- in the plane
 
 module _ (radars : List RadarSettings) where
-  own_key : (e : Entry) → IfSome (plane radars e) (HasKey e)
+  pub own_key : (e : Entry) → IfSome (plane radars e) (HasKey e)
   unfolding plane_plot
   own_key (Bias slot place radar bias) = tt
   own_key (Plot key raw) = elim (slice_get radars key.radar) as (λ r. IfSome (option_map (λ r. plane_plot r raw key) r) (λ p. p.key ≡ key)) [ None ↦ tt | Some r ↦ refl ]

@@ -7,13 +7,15 @@
 mod keys;
 mod laws;
 mod priced;
+mod spans;
 mod state;
 mod step;
 #[cfg(test)]
 mod tests;
 
 pub use keys::EntryKey;
-pub use laws::{folded_log, folded_radars};
+pub use laws::{folded_log, folded_radars, folded_span};
 pub use priced::PricedCerts;
+pub use spans::{span_outs, span_plots, span_states};
 pub use state::TrackerState;
 pub use step::{TrackerFold, radars_after};

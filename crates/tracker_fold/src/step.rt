@@ -191,7 +191,7 @@ fn planes(
 }
 
 // A plot in the plane, by its radar as it is then.
-fn plane(radars: &[RadarSettings], entry: &Entry) -> Option<PlanePlot>
+pub(crate) fn plane(radars: &[RadarSettings], entry: &Entry) -> Option<PlanePlot>
     ensures { result ≡ plane radars.now entry.now }
 {
     match entry {
