@@ -11,9 +11,9 @@ use Rattle.span_clusters.specs.Jobs.{NumbersDiffer, AreBeforeBoth, AreParts, Cro
 use Rattle.span_clusters.proofs.Interleavings.{contains_first, contains_later, contains_cons}
 use Rattle.cluster_pool.specs.Joins.{AreTaken, AreNumbers}
 
-pub empty_lacks : {X : Type 0} (xs : List X) (x : X) → xs ≡ [] → Contains xs x → ⊥
+pub empty_lacks : {X : Type 0} (xs : List X) (x : X) → length xs ≡ 0 → Contains xs x → ⊥
 empty_lacks [] x e c = omega (arith, c.1)
-empty_lacks (y ∷ xs) x e c = let h : length (y ∷ xs) ≡ 0 = ap length e in omega (arith, h)
+empty_lacks (y ∷ xs) x e c = omega (arith, e)
 
 -- the state is before the first item's slot
 pub some_before : {S I : Type 0} (is_before : S → ℕ → Type 0) (slot : I → ℕ) (s : S) (xs : List I) → 0 < length xs → BeforeFirst is_before slot s xs → (n : ℕ) × is_before s n

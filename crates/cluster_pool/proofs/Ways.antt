@@ -16,7 +16,6 @@ use Rattle.span_clusters.proofs.Interleavings.{contains_first, contains_later, c
 use Rattle.span_clusters.proofs.Separating.{Separating, SeparatingLaws}
 use Rattle.span_clusters.proofs.Resting.{empty_or, rested_step, rested_before, rested_filled, IsPartOf, rested_stays, reads}
 use Rattle.span_clusters.proofs.Spans.{AreParts, AreBrought, parts_of, bring, all_states, all_outs}
-use Rattle.span_clusters.proofs.FoundPairs.{take_more}
 use Rattle.cluster_pool.specs.Walks.{Left, left_states, Fills, Rests, GoesOn, GoOn, IsStart, AreAtStart, MayMerge, IsMergedSlot}
 use Rattle.cluster_pool.proofs.Halves.{pairs_right, one_join}
 
@@ -108,6 +107,23 @@ begin_needs : {I O : Type 0} (P : O → Type 0) (Q : List O → Type 0) (xs : Li
 begin_needs P Q [] l h = omega (arith, l)
 begin_needs P Q (x ∷ xs) l h = h
 
+module _ {S I : Type 0} (next : S → ℕ → List I → S) (slot : I → ℕ) where
+  pub run_length : (s : S) (xs : List I) (run : List S) (filled : List ℕ) → run ≡ states next slot s xs → filled ≡ slots slot xs → length run ≡ length filled
+  run_length s xs run filled e f = ap length e ∙ same (slots slot xs) ∙ ap length (sym f)
+    where
+      same : (ns : List ℕ) → length (map (after next slot s xs) ns) ≡ length ns
+      same [] = refl
+      same (n ∷ ns) = let h = same ns in omega (arith, h)
+
+module _ {S I O : Type 0} (next : S → ℕ → List I → S) (slot : I → ℕ) (is_out : S → ℕ → List I → O → Type 0) where
+  at_length : (s : S) (xs : List I) (ns : List ℕ) (os : List O) → OutsAt next slot is_out s xs ns os → length os ≡ length ns
+  at_length s xs [] os h = ap length h
+  at_length s xs (n ∷ ns) [] h = absurd h
+  at_length s xs (n ∷ ns) (o ∷ os) h = let e = at_length s xs ns os h.1 in omega (arith, e)
+
+  pub outs_length : (s : S) (xs : List I) (os : List O) (filled : List ℕ) → AreOutsOf next slot is_out s xs os → filled ≡ slots slot xs → length os ≡ length filled
+  outs_length s xs os filled h f = at_length s xs (slots slot xs) os h ∙ ap length (sym f)
+
 only_one : {X : Type 0} (rest : List X) (x : X) → length (rest ++ x ∷ []) ≤ 1 → rest ++ x ∷ [] ≡ x ∷ []
 only_one [] x l = refl
 only_one (y ∷ []) x l = absurd (omega (arith, l))
@@ -160,14 +176,15 @@ module _ {S I O : Type 0} (next : S → ℕ → List I → S) (slot : I → ℕ)
   AreWalks n (p ∷ ps) [] = ⊥
   AreWalks n (p ∷ ps) (w ∷ ws) = IsWalk n p w × AreWalks n ps ws
 
-  -- k of the slots of the whole are behind
-  pub record IsUnderway (Splits : S → Type 0) (parts : List (Part S I)) (filled : List ℕ) (k : ℕ) (walks : List (Left S O)) (run : List S) (outs : List O) : Type 0 where
+  -- the slots that are gone and those that are left, of all of the whole
+  pub record IsUnderway (Splits : S → Type 0) (parts : List (Part S I)) (gone left : List ℕ) (walks : List (Left S O)) (run : List S) (outs : List O) : Type 0 where
     pub n : ℕ
-    pub past : AllByRecursion (λ m. m < n) (take k filled)
-    pub ahead : AllByRecursion (λ m. n ≤ m) (drop k filled)
+    pub cut : gone ++ left ≡ slots slot zs
+    pub past : AllByRecursion (λ m. m < n) gone
+    pub ahead : AllByRecursion (λ m. n ≤ m) left
     pub on : AreWalks n parts walks
-    pub folded : (s : S) → Splits s → run ≡ map (after next slot s zs) (take k filled)
-    pub told : (s : S) → Splits s → OutsAt next slot is_out s zs (take k filled) outs
+    pub folded : (s : S) → Splits s → run ≡ map (after next slot s zs) gone
+    pub told : (s : S) → Splits s → OutsAt next slot is_out s zs gone outs
 
   all_zero : (ms : List ℕ) → AllByRecursion (λ m. 0 ≤ m) ms
   all_zero [] = tt
@@ -190,26 +207,24 @@ module _ {S I O : Type 0} (next : S → ℕ → List I → S) (slot : I → ℕ)
   all_begin (p ∷ ps) [] h = absurd h
   all_begin (p ∷ ps) (w ∷ ws) h = (walk_begins p w h.0, all_begin ps ws h.1)
 
-  pub underway_first : (Splits : S → Type 0) (parts : List (Part S I)) (filled : List ℕ) (walks : List (Left S O)) → AreAtStart next slot is_out parts walks → IsUnderway Splits parts filled 0 walks [] []
-  underway_first Splits parts filled walks h = record { n = 0; past = tt; ahead = all_zero (drop 0 filled); on = all_begin parts walks h; folded = λ s i. refl; told = λ s i. refl }
+  pub underway_first : (Splits : S → Type 0) (parts : List (Part S I)) (left : List ℕ) (walks : List (Left S O)) → left ≡ slots slot zs → AreAtStart next slot is_out parts walks → IsUnderway Splits parts [] left walks [] []
+  underway_first Splits parts left walks e h = record { n = 0; cut = e; past = tt; ahead = all_zero left; on = all_begin parts walks h; folded = λ s i. refl; told = λ s i. refl }
 
   pub walk_states : (n : ℕ) (ps : List (Part S I)) (ws : List (Left S O)) → AreWalks n ps ws → left_states ws ≡ map (λ p. rested_before next slot p.start p.items zs n) ps
   walk_states n [] ws a = ap left_states a
   walk_states n (p ∷ ps) [] a = absurd a
   walk_states n (p ∷ ps) (w ∷ ws) a = λ i. a.0.state i ∷ walk_states n ps ws a.1 i
 
-  take_whole : (k : ℕ) (ms : List ℕ) → length ms ≤ k → take k ms ≡ ms
-  take_whole zero [] l = refl
-  take_whole zero (m ∷ ms) l = absurd (omega (arith, l))
-  take_whole (suc k) [] l = refl
-  take_whole (suc k) (m ∷ ms) l = ap (λ (l : List ℕ). m ∷ l) (take_whole k ms (omega (arith, l)))
+  all_gone : (gone left : List ℕ) → gone ++ left ≡ slots slot zs → length left ≡ 0 → gone ≡ slots slot zs
+  all_gone gone [] e l = sym (append-nil gone) ∙ e
+  all_gone gone (m ∷ left) e l = absurd (omega (arith, l))
 
-  -- once all are behind
-  pub run_done : (Splits : S → Type 0) (parts : List (Part S I)) (k : ℕ) (walks : List (Left S O)) (run : List S) (outs : List O) → IsUnderway Splits parts (slots slot zs) k walks run outs → length (slots slot zs) ≤ k → (s : S) → Splits s → run ≡ states next slot s zs
-  run_done Splits parts k walks run outs u l s i = u.folded s i ∙ ap (map (after next slot s zs)) (take_whole k (slots slot zs) l)
+  -- once all are gone
+  pub run_done : (Splits : S → Type 0) (parts : List (Part S I)) (gone left : List ℕ) (walks : List (Left S O)) (run : List S) (outs : List O) → IsUnderway Splits parts gone left walks run outs → length left ≡ 0 → (s : S) → Splits s → run ≡ states next slot s zs
+  run_done Splits parts gone left walks run outs u l s i = u.folded s i ∙ ap (map (after next slot s zs)) (all_gone gone left u.cut l)
 
-  pub outs_done : (Splits : S → Type 0) (parts : List (Part S I)) (k : ℕ) (walks : List (Left S O)) (run : List S) (outs : List O) → IsUnderway Splits parts (slots slot zs) k walks run outs → length (slots slot zs) ≤ k → (s : S) → Splits s → AreOutsOf next slot is_out s zs outs
-  outs_done Splits parts k walks run outs u l s i = subst (λ (ns : List ℕ). OutsAt next slot is_out s zs ns outs) (take_whole k (slots slot zs) l) (u.told s i)
+  pub outs_done : (Splits : S → Type 0) (parts : List (Part S I)) (gone left : List ℕ) (walks : List (Left S O)) (run : List S) (outs : List O) → IsUnderway Splits parts gone left walks run outs → length left ≡ 0 → (s : S) → Splits s → AreOutsOf next slot is_out s zs outs
+  outs_done Splits parts gone left walks run outs u l s i = subst (λ (ns : List ℕ). OutsAt next slot is_out s zs ns outs) (all_gone gone left u.cut l) (u.told s i)
 
 module _ {S I K O : Type 0} (F : Separating S I K O) (L : SeparatingLaws F) (order : (x y : I) → F.cmp x y ≡ Less → F.slot x ≤ F.slot y) (zs : List I) where
   abbrev brought : ℕ → Part S I → S
@@ -233,7 +248,7 @@ module _ {S I K O : Type 0} (F : Separating S I K O) (L : SeparatingLaws F) (ord
   brought_full n p f = rested_filled F.next (brought n p) n (at_slot F.slot n p.items) (at_slot F.slot n zs) f
 
   -- after the slot
-  record IsStepped (n : ℕ) (p : Part S I) (v : Left S O) (told : Option O) : Type 0 where
+  record IsStepped (n : ℕ) (p : Part S I) (v : Left S O) (told : Option O) : Type 1 where
     walk : Walk (suc n) p v
     out : (Q : List O → Type 0) (rest : List O) → Q rest → OutsBegin (F.is_out (before F.next F.slot p.start p.items n) n (at_slot F.slot n p.items)) Q (at_slot F.slot n p.items) (option_to_list told ++ rest)
 
@@ -398,51 +413,38 @@ module _ {S I K O : Type 0} (F : Separating S I K O) (L : SeparatingLaws F) (ord
   all_beside s [] r i c n = absurd i.state
   all_beside s (p ∷ ps) r i c n = (bring F L zs s p ps (sym i.state) i.beside (parts_of F L zs s p ps r i c) n).beside
 
-  abbrev pub Underway : List (Part S I) → ℕ → List (Left S O) → List S → List O → Type 0
-  Underway parts k walks run outs = IsUnderway F.next F.slot F.is_out zs (Splits parts) parts (slots F.slot zs) k walks run outs
+  abbrev pub Underway : List (Part S I) → List ℕ → List ℕ → List (Left S O) → List S → List O → Type 0
+  Underway parts gone left walks run outs = IsUnderway F.next F.slot F.is_out zs (Splits parts) parts gone left walks run outs
 
   -- the next slot of the whole
-  pub record IsNext (parts : List (Part S I)) (k m : ℕ) (walks : List (Left S O)) : Type 0 where
+  pub record IsNext (parts : List (Part S I)) (gone : List ℕ) (m : ℕ) (left : List ℕ) (walks : List (Left S O)) : Type 0 where
     pub full : IsFilled F.slot m zs
     pub on : Walks m parts walks
-    pub past : AllByRecursion (λ j. j < m) (take k (slots F.slot zs))
-    pub ahead : AllByRecursion (λ j. m < j) (drop (suc k) (slots F.slot zs))
-    pub more : take (k + 1) (slots F.slot zs) ≡ take k (slots F.slot zs) ++ m ∷ []
+    pub past : AllByRecursion (λ j. j < m) gone
+    pub ahead : AllByRecursion (λ j. m < j) left
+    pub cut : gone ++ m ∷ left ≡ slots F.slot zs
 
-  cut_here : (k : ℕ) (ms : List ℕ) (m : ℕ) → k < length ms → m ≡ get_or ms k m → take k ms ++ m ∷ drop (suc k) ms ≡ ms
-  cut_here k [] m l e = absurd (omega (arith, l))
-  cut_here zero (j ∷ ms) m l e = ap (λ i. i ∷ ms) e
-  cut_here (suc k) (j ∷ ms) m l e = ap (λ (l : List ℕ). j ∷ l) (cut_here k ms m (omega (arith, l)) e)
-
-  drop_here : (k : ℕ) (ms : List ℕ) (m : ℕ) → k < length ms → m ≡ get_or ms k m → drop k ms ≡ m ∷ drop (suc k) ms
-  drop_here k [] m l e = absurd (omega (arith, l))
-  drop_here zero (j ∷ ms) m l e = ap (λ i. i ∷ ms) (sym e)
-  drop_here (suc k) (j ∷ ms) m l e = drop_here k ms m (omega (arith, l)) e
-
-  pub comes_next : (s : S) (parts : List (Part S I)) (k m : ℕ) (walks : List (Left S O)) (run : List S) (outs : List O) → Rises F.cmp F.key zs → Splits parts s → Clear parts
-      → Underway parts k walks run outs → k < length (slots F.slot zs) → m ≡ get_or (slots F.slot zs) k m → IsNext parts k m walks
-  comes_next s parts k m walks run outs r i c u l e =
-      let all = slots F.slot zs in
-      let cut : take k all ++ m ∷ drop (suc k) all ≡ all = cut_here k all m l e in
-      let rising : Rise (m ∷ drop (suc k) all) = pairs_right (λ a b. a < b) (take k all) (m ∷ drop (suc k) all) (subst Rise (sym cut) (slots_strict F.slot zs (slots_rise F.cmp F.key F.slot order zs r))) in
-      let ahead : AllByRecursion (λ j. u.n ≤ j) (m ∷ drop (suc k) all) = subst (AllByRecursion (λ j. u.n ≤ j)) (drop_here k all m l e) u.ahead in
-      let low : u.n ≤ m = ahead.0 in
+  comes_next : (s : S) (parts : List (Part S I)) (gone : List ℕ) (m : ℕ) (left : List ℕ) (walks : List (Left S O)) (run : List S) (outs : List O) → Rises F.cmp F.key zs → Splits parts s → Clear parts
+      → Underway parts gone (m ∷ left) walks run outs → IsNext parts gone m left walks
+  comes_next s parts gone m left walks run outs r i c u =
+      let rising : Rise (m ∷ left) = pairs_right (λ a b. a < b) gone (m ∷ left) (subst Rise (sym u.cut) (slots_strict F.slot zs (slots_rise F.cmp F.key F.slot order zs r))) in
+      let low : u.n ≤ m = u.ahead.0 in
       let gap : Gap u.n m = λ j a b. elim (empty_or (at_slot F.slot j zs)) [
         | inl e ↦ e
-        | inr own ↦ absurd (elim (in_append (take k all) (m ∷ drop (suc k) all) j (subst (λ (ms : List ℕ). Contains ms j) (sym cut) (filled_has F.slot j zs own))) [
-          | inl c ↦ (let h : j < u.n = all_contains (λ i. i < u.n) j (take k all) u.past c in omega (arith, h, a))
-          | inr c ↦ elim (contains_cons m j (drop (suc k) all) c) [
+        | inr own ↦ absurd (elim (in_append gone (m ∷ left) j (subst (λ (ms : List ℕ). Contains ms j) (sym u.cut) (filled_has F.slot j zs own))) [
+          | inl d ↦ (let h : j < u.n = all_contains (λ i. i < u.n) j gone u.past d in omega (arith, h, a))
+          | inr d ↦ elim (contains_cons m j left d) [
             | inl q ↦ omega (arith, q, b)
-            | inr d ↦ (let h : m < j = all_contains (λ i. m < i) j (drop (suc k) all) rising.0 d in omega (arith, h, b))
+            | inr k ↦ (let h : m < j = all_contains (λ i. m < i) j left rising.0 k in omega (arith, h, b))
           ]
         ])
       ] in
       record {
-        full = has_filled F.slot m zs (subst (λ (ms : List ℕ). Contains ms m) cut (contains_right (take k all) (m ∷ drop (suc k) all) m (contains_first m m (drop (suc k) all) refl)));
+        full = has_filled F.slot m zs (subst (λ (ms : List ℕ). Contains ms m) u.cut (contains_right gone (m ∷ left) m (contains_first m m left refl)));
         on = lift_all u.n m parts walks low gap (each_own s parts r i c) u.on;
-        past = all_weaker (λ j. j < u.n) (λ j. j < m) (λ j h. omega (arith, h, low)) (take k all) u.past;
+        past = all_weaker (λ j. j < u.n) (λ j. j < m) (λ j h. omega (arith, h, low)) gone u.past;
         ahead = rising.0;
-        more = take_more k all m l e;
+        cut = u.cut;
       }
 
   -- all parts after the next slot
@@ -458,8 +460,8 @@ module _ {S I K O : Type 0} (F : Separating S I K O) (L : SeparatingLaws F) (ord
   same_length n (p ∷ ps) [] a = absurd a
   same_length n (p ∷ ps) (w ∷ ws) a = let e = same_length n ps ws a.1 in omega (arith, e)
 
-  pub come_after : (s : S) (parts : List (Part S I)) (k m : ℕ) (walks vs : List (Left S O)) (told : List O) → Rises F.cmp F.key zs → Splits parts s → Clear parts → IsNext parts k m walks → GoOn F.next m walks vs told → AreAfter parts m vs told
-  come_after s parts k m walks vs told r i c n g =
+  come_after : (s : S) (parts : List (Part S I)) (gone : List ℕ) (m : ℕ) (left : List ℕ) (walks vs : List (Left S O)) (told : List O) → Rises F.cmp F.key zs → Splits parts s → Clear parts → IsNext parts gone m left walks → GoOn F.next m walks vs told → AreAfter parts m vs told
+  come_after s parts gone m left walks vs told r i c n g =
       let own : AllByRecursion Own parts = each_own s parts r i c in
       let a : AreStepped m parts vs told = step_all m parts walks vs told n.full own n.on g in
       let same : left_states vs ≡ map (brought (suc m)) parts = walk_states F.next F.slot F.is_out zs (suc m) parts vs a.on in
@@ -480,37 +482,37 @@ module _ {S I K O : Type 0} (F : Separating S I K O) (L : SeparatingLaws F) (ord
   outs_more s (m ∷ ns) [] n o h k = absurd h
   outs_more s (m ∷ ns) (p ∷ os) n o h k = (h.0, outs_more s ns os n o h.1 k)
 
-  pub underway_more : (parts : List (Part S I)) (k m : ℕ) (walks vs : List (Left S O)) (run : List S) (outs told : List O) (state : S) (out : O) → Rises F.cmp F.key zs → Clear parts
-      → Underway parts k walks run outs → IsNext parts k m walks → AreAfter parts m vs told → IsJoin F.merged (left_states vs) state → IsJoin F.both told out → Underway parts (k + 1) vs (run ++ state ∷ []) (outs ++ out ∷ [])
-  underway_more parts k m walks vs run outs told state out r c u n a js jo =
-      let all = slots F.slot zs in
+  underway_more : (parts : List (Part S I)) (gone : List ℕ) (m : ℕ) (left : List ℕ) (walks vs : List (Left S O)) (run : List S) (outs told : List O) (state : S) (out : O) → Rises F.cmp F.key zs → Clear parts
+      → Underway parts gone (m ∷ left) walks run outs → IsNext parts gone m left walks → AreAfter parts m vs told → IsJoin F.merged (left_states vs) state → IsJoin F.both told out → Underway parts (gone ++ m ∷ []) left vs (run ++ state ∷ []) (outs ++ out ∷ [])
+  underway_more parts gone m left walks vs run outs told state out r c u n a js jo =
       record {
         n = suc m;
-        past = subst (AllByRecursion (λ j. j < suc m)) (sym n.more) (all_append (λ j. j < suc m) (take k all) (m ∷ []) (all_weaker (λ j. j < m) (λ j. j < suc m) (λ j h. omega (arith, h)) (take k all) n.past) (omega arith, tt));
-        ahead = subst (λ j. AllByRecursion (λ i. suc m ≤ i) (drop j all)) (let e : suc k ≡ k + 1 = omega arith in e) (all_weaker (λ j. m < j) (λ j. suc m ≤ j) (λ j h. omega (arith, h)) (drop (suc k) all) n.ahead);
+        cut = append_assoc gone (m ∷ []) left ∙ n.cut;
+        past = all_append (λ j. j < suc m) gone (m ∷ []) (all_weaker (λ j. j < m) (λ j. j < suc m) (λ j h. omega (arith, h)) gone n.past) (omega arith, tt);
+        ahead = all_weaker (λ j. m < j) (λ j. suc m ≤ j) (λ j h. omega (arith, h)) left n.ahead;
         on = a.stepped.on;
         folded = λ s i.
             let one : state ≡ after F.next F.slot s zs m =
             one_join F.merged (states_after F.next F.slot parts m) state (after F.next F.slot s zs m) (subst (λ (l : List S). IsJoin F.merged l state) a.states js) (all_states F L zs s parts r i c m n.full) in
-            (λ j. u.folded s i j ++ one j ∷ []) ∙ sym (map_more (after F.next F.slot s zs) (take k all) m) ∙ ap (map (after F.next F.slot s zs)) (sym n.more);
-        told = λ s i. subst (λ (l : List ℕ). OutsAt F.next F.slot F.is_out s zs l (outs ++ out ∷ [])) (sym n.more)
-            (outs_more s (take k all) outs m out (u.told s i) (all_outs F L zs s parts r i c m n.full told out a.stepped.told jo));
+            (λ j. u.folded s i j ++ one j ∷ []) ∙ sym (map_more (after F.next F.slot s zs) gone m);
+        told = λ s i. outs_more s gone outs m out (u.told s i) (all_outs F L zs s parts r i c m n.full told out a.stepped.told jo);
       }
 
   -- what the loop asks of a slot, and what it has after it
-  pub may_merge : (s : S) (parts : List (Part S I)) (k m : ℕ) (walks : List (Left S O)) (run : List S) (outs : List O) → Rises F.cmp F.key zs → Splits parts s → Clear parts → 2 ≤ length parts
-      → Underway parts k walks run outs → k < length (slots F.slot zs) → m ≡ get_or (slots F.slot zs) k m → MayMerge F.next F.is_before F.is_beside m walks
-  may_merge s parts k m walks run outs r i c two u l e =
-      let n : IsNext parts k m walks = comes_next s parts k m walks run outs r i c u l e in
+  pub may_merge : (s : S) (parts : List (Part S I)) (gone : List ℕ) (m : ℕ) (all left : List ℕ) (walks : List (Left S O)) (run : List S) (outs : List O) → Rises F.cmp F.key zs → Splits parts s → Clear parts → 2 ≤ length parts
+      → Underway parts gone all walks run outs → all ≡ m ∷ left → MayMerge F.next F.is_before F.is_beside m walks
+  may_merge s parts gone m all left walks run outs r i c two u e =
+      let n : IsNext parts gone m left walks = comes_next s parts gone m left walks run outs r i c (subst (λ (ms : List ℕ). Underway parts gone ms walks run outs) e u) in
       record {
         before = walks_before m parts walks n.full (each_own s parts r i c) n.on;
-        beside = λ vs told g. (come_after s parts k m walks vs told r i c n g).beside;
-        several = λ vs told g. let same = (come_after s parts k m walks vs told r i c n g).length_same in omega (arith, same, two);
-        some = λ vs told g. (come_after s parts k m walks vs told r i c n g).some;
+        beside = λ vs told g. (come_after s parts gone m left walks vs told r i c n g).beside;
+        several = λ vs told g. let same = (come_after s parts gone m left walks vs told r i c n g).length_same in omega (arith, same, two);
+        some = λ vs told g. (come_after s parts gone m left walks vs told r i c n g).some;
       }
 
-  pub one_slot_more : (s : S) (parts : List (Part S I)) (k m : ℕ) (walks vs : List (Left S O)) (run : List S) (outs : List O) (state : S) (out : O) → Rises F.cmp F.key zs → Splits parts s → Clear parts
-      → Underway parts k walks run outs → k < length (slots F.slot zs) → m ≡ get_or (slots F.slot zs) k m → IsMergedSlot F.next F.merged F.both m walks vs state out → Underway parts (k + 1) vs (run ++ state ∷ []) (outs ++ out ∷ [])
-  one_slot_more s parts k m walks vs run outs state out r i c u l e g =
-      let n : IsNext parts k m walks = comes_next s parts k m walks run outs r i c u l e in
-      underway_more parts k m walks vs run outs g.told state out r c u n (come_after s parts k m walks vs g.told r i c n g.gone) g.state g.out
+  pub one_slot_more : (s : S) (parts : List (Part S I)) (gone : List ℕ) (m : ℕ) (all left : List ℕ) (walks vs : List (Left S O)) (run : List S) (outs : List O) (state : S) (out : O) → Rises F.cmp F.key zs → Splits parts s → Clear parts
+      → Underway parts gone all walks run outs → all ≡ m ∷ left → IsMergedSlot F.next F.merged F.both m walks vs state out → Underway parts (gone ++ m ∷ []) left vs (run ++ state ∷ []) (outs ++ out ∷ [])
+  one_slot_more s parts gone m all left walks vs run outs state out r i c u e g =
+      let v : Underway parts gone (m ∷ left) walks run outs = subst (λ (ms : List ℕ). Underway parts gone ms walks run outs) e u in
+      let n : IsNext parts gone m left walks = comes_next s parts gone m left walks run outs r i c v in
+      underway_more parts gone m left walks vs run outs g.told state out r c v n (come_after s parts gone m left walks vs g.told r i c n g.gone) g.state g.out

@@ -81,7 +81,7 @@ module _ {S I K O : Type 0} (F : Separating S I K O) (L : SeparatingLaws F)
   Joins old at jobs parts before now = AreJoined F.slot F.cmp F.key F.is_before F.is_beside F.merged old at jobs parts before now
 
   pub joins_first : (old : List (Part S I)) (n : ℕ) → AreParts F.slot F.key F.is_before F.is_beside old → Joins old 0 [] old n n
-  joins_first old n a = record { comes = none_joined F L merged_rest old n; left = a; count = refl; begun = inl (refl, refl) }
+  joins_first old n a = record { comes = none_joined F L merged_rest old n; left = a; count = omega arith; begun = inl (refl, refl) }
 
   -- the first pair is there
   pub joins_not : (old jobs parts : List (Part S I)) (at a b before now : ℕ) → Joins old at jobs parts before now → AreNumbers a b old → AllByRecursion (λ p. p.number ≢ a) parts ⊎ AllByRecursion (λ p. p.number ≢ b) parts → Joins old (at + 1) jobs parts before now

@@ -240,8 +240,8 @@ fn merged_slots<F: Separable>(
     let mut outs = Vec::new(alloc);
     let filled = slots_of::<F>(alloc, items)?;
     let mut walks = walks_of(alloc, done)?;
-    for slot in &filled {
-        let (after, state, out) = merged_slot(alloc, walks, *slot)?;
+    for slot in filled {
+        let (after, state, out) = merged_slot(alloc, walks, slot)?;
         walks = after;
         states.push(state)?;
         outs.push(out)?;

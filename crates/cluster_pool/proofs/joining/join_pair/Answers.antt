@@ -27,7 +27,7 @@ join_parts-requires-clause-other_before g c =
     let F = g.F.Fold in
     (two_taken F.slot_of F.key_of F.is_before g.F.Separable.is_beside g.met.F.Separable.beside_back c.in-Some.one c.in-Some.other c.args.done.now.items c.take_both.new.done.items c.in-Some.ensures c.requires.parts).before.back
 
-pub returns-in-Some-clause-none : goal.returns-in-Some-clause-none
-returns-in-Some-clause-none g c =
+pub returns-in_ok-job-in-Some-clause-none : goal.returns-in_ok-job-in-Some-clause-none
+returns-in_ok-job-in-Some-clause-none g c =
     let e = c.in_ok-job.ensures in
     (c.in-Some.one, c.in-Some.other, c.in-Some.ensures, record { both = e.items; rising = search rules; is = λ i. record { number = e.number i; start = e.start i; items = c.in_ok-job.job.items } }, e.steps)

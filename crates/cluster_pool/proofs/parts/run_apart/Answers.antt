@@ -50,12 +50,12 @@ crossings-requires g c =
     let zs = c.args.items.now in
     let before = c.args.steps.now in
     let kept = c.joins.invariant in
-    rw c.deref.ensures.value (kept_parts F s zs c.joins.done.items before c.joins.steps c.requires.rising kept)
+    record { parts = kept_parts F s zs c.joins.done.items before c.joins.steps c.requires.rising kept }
 
 pub returns-then-is_empty-clause-clear : goal.returns-then-is_empty-clause-clear
 returns-then-is_empty-clause-clear g c =
     let M = g.F.Fold in
-    let none : c.in_ok-pairs.pairs.items ≡ [] = search rules in
+    let none : length c.in_ok-pairs.pairs.items ≡ 0 = search rules in
     none_cross M.next M.slot_of g.F.Separable.gates c.joins.done.items (λ a b h. empty_lacks c.in_ok-pairs.pairs.items (a, b) none ((c.in_ok-pairs.ensures.exact a b).1 (rw c.deref.ensures.value h)))
 
 pub returns-then-is_empty-clause-bound : goal.returns-then-is_empty-clause-bound

@@ -12,7 +12,7 @@ returns-then-is_empty-clause-states g c =
 pub returns-then-is_empty-clause-outs : goal.returns-then-is_empty-clause-outs
 returns-then-is_empty-clause-outs g c =
     let F = g.F.Fold in
-    subst (λ ns. OutsAt F.next F.slot_of F.is_out c.args.state.now c.args.items.now ns c.new-2.result.items) (sym (no_items F.slot_of c.args.items.now (sym c.if-is_empty.true ∙ c.is_empty.ensures))) c.new-2.ensures.items
+    subst (λ ns. OutsAt F.next F.slot_of F.is_out c.args.state.now c.args.items.now ns c.new-then-is_empty.result.items) (sym (no_items F.slot_of c.args.items.now (sym c.if-is_empty.true ∙ c.is_empty.ensures))) c.new-then-is_empty.ensures.items
 
 pub merged_runs-requires-clause-splitting : goal.merged_runs-requires-clause-splitting
 merged_runs-requires-clause-splitting g c = (c.args.state.now, c.in_ok-done.ensures.splitting)

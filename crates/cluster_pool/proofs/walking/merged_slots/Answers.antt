@@ -1,4 +1,5 @@
-use Rattle.std.proofs.Common.{◌≡◌, ◌<◌, ◌≤◌, ◌++◌, ◌∷◌, [], ℕ, List, length, get_or, subst, rules}
+use Rattle.std.proofs.Common.{◌≡◌, ◌∙◌, ◌+◌, ◌++◌, ◌∷◌, [], ap, sym, arith, length, rules}
+use Rattle.std.specs.Vec.Iter.{into_iter_items, into_iter_len}
 use Rattle.late_window.specs.Folding.{slots}
 use Rattle.span_clusters.specs.Parts.{IsSplitting}
 use Rattle.span_clusters.proofs.Separating.{Separating, SeparatingLaws}
@@ -9,8 +10,12 @@ pub loop-slot-init : goal.loop-slot-init
 loop-slot-init g c =
     let F = g.F.Fold in
     let M = g.F.Separable in
-    rw (c.new-states.ensures.items, c.new-outs.ensures.items)
-    (underway_first F.next F.slot_of F.is_out c.args.items.now (λ s. IsSplitting F.slot_of F.is_before M.is_beside M.merged s c.args.items.now c.args.done.items) c.args.done.items (slots F.slot_of c.args.items.now) c.in_ok-walks.walks.items c.in_ok-walks.ensures)
+    let left = into_iter_items c.into_iter-slot-iterator.result in
+    let same : left ≡ slots F.slot_of c.args.items.now = c.into_iter-slot-iterator.ensures.into_iter_gives.0 ∙ c.in_ok-filled.ensures in
+    record {
+      underway = rw (c.new-states.ensures.items, c.new-outs.ensures.items) (underway_first F.next F.slot_of F.is_out c.args.items.now (λ s. IsSplitting F.slot_of F.is_before M.is_beside M.merged s c.args.items.now c.args.done.items) c.args.done.items left c.in_ok-walks.walks.items same c.in_ok-walks.ensures);
+      count = let n : into_iter_len c.into_iter-slot-iterator.result ≡ length (into_iter_items c.into_iter-slot-iterator.result) = search rules in n;
+    }
 
 pub merged_slot-requires : goal.merged_slot-requires
 merged_slot-requires g c =
@@ -49,14 +54,10 @@ merged_slot-requires g c =
     let s = c.requires.splitting.0 in
     let zs = c.args.items.now in
     let parts = c.args.done.items in
-    let k = c.loop-slot.slot-index in
-    let m = c.slot-item.result in
-    let all = c.in_ok-filled.filled.items in
-    let within : k < length all = search rules in
-    let found : m ≡ get_or all k m = search rules in
-    let inside : k < length (slots F.slot zs) = subst (λ (l : List ℕ). k < length l) c.in_ok-filled.ensures within in
-    let here : m ≡ get_or (slots F.slot zs) k m = subst (λ (l : List ℕ). m ≡ get_or l k m) c.in_ok-filled.ensures found in
-    may_merge F L g.met.F.Fold.in_order zs s parts k m c.loop-slot.walks.items c.loop-slot.states.items c.loop-slot.outs.items c.requires.rising c.requires.splitting.1 c.requires.clear c.requires.several c.loop-slot.invariant inside here
+    let at = c.loop-slot in
+    let left = into_iter_items c.next.new.self in
+    let steps : into_iter_items at.slot-iterator ≡ c.in-Some.slot ∷ left = c.in-Some.ensures.steps.0 in
+    may_merge F L g.met.F.Fold.in_order zs s parts at.yielded c.in-Some.slot (into_iter_items at.slot-iterator) left at.walks.items at.states.items at.outs.items c.requires.rising c.requires.splitting.1 c.requires.clear c.requires.several at.invariant.underway steps
 
 pub loop-slot-preserved : goal.loop-slot-preserved
 loop-slot-preserved g c =
@@ -95,31 +96,28 @@ loop-slot-preserved g c =
     let s = c.requires.splitting.0 in
     let zs = c.args.items.now in
     let parts = c.args.done.items in
-    let k = c.loop-slot.slot-index in
-    let m = c.slot-item.result in
-    let all = c.in_ok-filled.filled.items in
-    let within : k < length all = search rules in
-    let found : m ≡ get_or all k m = search rules in
-    let inside : k < length (slots F.slot zs) = subst (λ (l : List ℕ). k < length l) c.in_ok-filled.ensures within in
-    let here : m ≡ get_or (slots F.slot zs) k m = subst (λ (l : List ℕ). m ≡ get_or l k m) c.in_ok-filled.ensures found in
-    let one : c.push.new.self.items ≡ c.loop-slot.states.items ++ c.in_ok-after.state ∷ [] = search rules in
-    let other : c.push-2.new.self.items ≡ c.loop-slot.outs.items ++ c.in_ok-after.out ∷ [] = search rules in
-    rw (one, other) (one_slot_more F L g.met.F.Fold.in_order zs s parts k m c.loop-slot.walks.items c.in_ok-after.after.items c.loop-slot.states.items c.loop-slot.outs.items c.in_ok-after.state c.in_ok-after.out c.requires.rising c.requires.splitting.1 c.requires.clear c.loop-slot.invariant inside here c.in_ok-after.ensures)
+    let at = c.loop-slot in
+    let left = into_iter_items c.next.new.self in
+    let steps : into_iter_items at.slot-iterator ≡ c.in-Some.slot ∷ left = c.in-Some.ensures.steps.0 in
+    let one : c.push.new.self.items ≡ at.states.items ++ c.in_ok-after.state ∷ [] = search rules in
+    let other : c.push-in-loop-slot.new.self.items ≡ at.outs.items ++ c.in_ok-after.out ∷ [] = search rules in
+    record {
+      underway = rw (one, other) (one_slot_more F L g.met.F.Fold.in_order zs s parts at.yielded c.in-Some.slot (into_iter_items at.slot-iterator) left at.walks.items c.in_ok-after.after.items at.states.items at.outs.items c.in_ok-after.state c.in_ok-after.out c.requires.rising c.requires.splitting.1 c.requires.clear at.invariant.underway steps c.in_ok-after.ensures);
+      count = let gone = c.in-Some.ensures.steps.1 in let was = at.invariant.count in let short = ap length steps in omega (arith, gone, was, short);
+    }
 
 pub returns-clause-states : goal.returns-clause-states
 returns-clause-states g c =
     let F = g.F.Fold in
     let M = g.F.Separable in
-    let zs = c.args.items.now in
-    let over : length c.in_ok-filled.filled.items ≤ c.loop-slot.slot-index = search rules in
-    λ s i. run_done F.next F.slot_of F.is_out zs (λ s. IsSplitting F.slot_of F.is_before M.is_beside M.merged s zs c.args.done.items) c.args.done.items c.loop-slot.slot-index c.loop-slot.walks.items c.loop-slot.states.items c.loop-slot.outs.items c.loop-slot.invariant
-    (subst (λ (l : List ℕ). length l ≤ c.loop-slot.slot-index) c.in_ok-filled.ensures over) s i
+    let at = c.loop-slot in
+    let none : length (into_iter_items at.slot-iterator) ≡ 0 = sym at.invariant.count ∙ c.in-None.ensures.steps.0 in
+    λ s i. run_done F.next F.slot_of F.is_out c.args.items.now (λ s. IsSplitting F.slot_of F.is_before M.is_beside M.merged s c.args.items.now c.args.done.items) c.args.done.items at.yielded (into_iter_items at.slot-iterator) at.walks.items at.states.items at.outs.items at.invariant.underway none s i
 
 pub returns-clause-outs : goal.returns-clause-outs
 returns-clause-outs g c =
     let F = g.F.Fold in
     let M = g.F.Separable in
-    let zs = c.args.items.now in
-    let over : length c.in_ok-filled.filled.items ≤ c.loop-slot.slot-index = search rules in
-    λ s i. outs_done F.next F.slot_of F.is_out zs (λ s. IsSplitting F.slot_of F.is_before M.is_beside M.merged s zs c.args.done.items) c.args.done.items c.loop-slot.slot-index c.loop-slot.walks.items c.loop-slot.states.items c.loop-slot.outs.items c.loop-slot.invariant
-    (subst (λ (l : List ℕ). length l ≤ c.loop-slot.slot-index) c.in_ok-filled.ensures over) s i
+    let at = c.loop-slot in
+    let none : length (into_iter_items at.slot-iterator) ≡ 0 = sym at.invariant.count ∙ c.in-None.ensures.steps.0 in
+    λ s i. outs_done F.next F.slot_of F.is_out c.args.items.now (λ s. IsSplitting F.slot_of F.is_before M.is_beside M.merged s c.args.items.now c.args.done.items) c.args.done.items at.yielded (into_iter_items at.slot-iterator) at.walks.items at.states.items at.outs.items at.invariant.underway none s i

@@ -1,4 +1,4 @@
-use Rattle.std.proofs.Common.{◌≡◌, ◌++◌, ◌∷◌, [], length, refl, sym, subst, rules}
+use Rattle.std.proofs.Common.{◌≡◌, ◌∙◌, ◌++◌, ◌∷◌, [], length, ap, refl, sym, subst, rules}
 use Rattle.std.proofs.lemmas.Result.{IfOk-weaker}
 use Rattle.span_clusters.specs.Interleavings.{IsJoin}
 use Rattle.cluster_pool.specs.Walks.{left_states}
@@ -19,12 +19,13 @@ merge-requires g c =
     let xs = c.split_at.result.0.now in
     let ys = c.split_at.result.1.now in
     let cut : ws ≡ xs ++ ys = c.split_at.ensures.by_index.0 in
-    let c2 = c.in_ok-two.two in
+    let two = c.in_ok-two.two in
     let last = c.index-back-0.result in
+    let same : c.last.inside.state ≡ last.state = search rules in
     let long : length ys ≡ 1 = search rules in
     let end : ys ≡ last ∷ [] = one_of ys last long c.index-back-0.is in
     let one : IsJoin g.F.Separable.merged (left_states ys) last.state = subst (λ l. IsJoin g.F.Separable.merged (left_states l) last.state) (sym end) refl in
-    (both_halves g.F.Separable.is_beside g.F.Separable.merged g.met.F.Separable.beside_back g.met.F.Separable.beside_merged g.met.F.Separable.merged_rest ws c.requires.beside xs ys c2 last.state cut c.in_ok-two.ensures one).apart
+    rw same (both_halves g.F.Separable.is_beside g.F.Separable.merged g.met.F.Separable.beside_back g.met.F.Separable.beside_merged g.met.F.Separable.merged_rest ws c.requires.beside xs ys two last.state cut c.in_ok-two.ensures one).apart
 
 pub returns : goal.returns
 returns g c =
@@ -32,9 +33,12 @@ returns g c =
     let xs = c.split_at.result.0.now in
     let ys = c.split_at.result.1.now in
     let cut : ws ≡ xs ++ ys = c.split_at.ensures.by_index.0 in
-    let c2 = c.in_ok-two.two in
+    let two = c.in_ok-two.two in
     let last = c.index-back-0.result in
+    let same : c.last.inside.state ≡ last.state = search rules in
     let long : length ys ≡ 1 = search rules in
     let end : ys ≡ last ∷ [] = one_of ys last long c.index-back-0.is in
     let one : IsJoin g.F.Separable.merged (left_states ys) last.state = subst (λ l. IsJoin g.F.Separable.merged (left_states l) last.state) (sym end) refl in
-    IfOk-weaker c.merge.result _ _ (λ s h. halves_joined g.F.Separable.is_beside g.F.Separable.merged g.met.F.Separable.beside_back g.met.F.Separable.beside_merged g.met.F.Separable.merged_rest ws c.requires.beside xs ys c2 last.state s cut c.in_ok-two.ensures one h) c.merge.ensures
+    let merged = g.F.Separable.merged in
+    IfOk-weaker c.merge.result (λ s. s ≡ merged two c.last.inside.state) (λ s. IsJoin merged (left_states ws) s)
+    (λ s h. halves_joined g.F.Separable.is_beside g.F.Separable.merged g.met.F.Separable.beside_back g.met.F.Separable.beside_merged g.met.F.Separable.merged_rest ws c.requires.beside xs ys two last.state s cut c.in_ok-two.ensures one (h ∙ ap (merged two) same)) c.merge.ensures
