@@ -17,11 +17,11 @@ returns-clause-edition c settings log before s =
       before_is = own.before_is;
       time = own.last_is;
       datagrams = c.in_ok-datagrams.ensures.datagrams settings log before s;
-      certs = certs_shown settings log before _ own c.in_ok-certs.certs.items (c.in_ok-certs.ensures ∙ (λ i. flat_map (λ o. map (λ k. k.cert) o.1) (filter (λ o. nat_le (low i) o.0) (c.outs.ensures i))));
+      certs = certs_shown settings log before _ own c.of.result (c.of.ensures ∙ c.in_ok-certs.ensures ∙ (λ i. flat_map (λ o. map (λ k. k.cert) o.1) (filter (λ o. nat_le (low i) o.0) (c.outs.ensures i))));
     }
 
 pub returns-clause-whole : goal.returns-clause-whole
 returns-clause-whole c settings log before s =
     let own = subst (StandsFor settings log (length log.events) before) (sym c.self.view_is) s in
     let low = c.low.ensures ∙ ap (λ e. low_at e.settings.window e.last) (sym c.self.view_is) in
-    All-from_recursion IsCert _ (certs_whole settings log before _ own c.in_ok-certs.certs.items (c.in_ok-certs.ensures ∙ (λ i. flat_map (λ o. map (λ k. k.cert) o.1) (filter (λ o. nat_le (low i) o.0) (c.outs.ensures i)))))
+    All-from_recursion IsCert _ (certs_whole settings log before _ own c.of.result (c.of.ensures ∙ c.in_ok-certs.ensures ∙ (λ i. flat_map (λ o. map (λ k. k.cert) o.1) (filter (λ o. nat_le (low i) o.0) (c.outs.ensures i)))))
