@@ -69,10 +69,14 @@ all_four _ _ _ _ = None
 abbrev pub scene_numbers : List ℕ → List ℕ → List ℕ → List ℕ → Option SceneNumbers
 scene_numbers seed aircraft seconds late = all_four (number_in 0 (2 ^ 64 - 1) seed) (number_in 1 2000 aircraft) (number_in 1 3600 seconds) (number_in 0 100 late)
 
--- with the name of an output
+-- with an output
 abbrev pub scene_with : Option SceneNumbers → List ℕ → Line
-scene_with (Some (seed, aircraft, seconds, late)) output = if is_name output then scene seed aircraft seconds late output else other
+scene_with (Some (seed, aircraft, seconds, late)) output = scene seed aircraft seconds late output
 scene_with None output = other
+
+-- .. that is a name
+abbrev pub named_scene : Option SceneNumbers → List ℕ → Line
+named_scene numbers output = if is_name output then scene_with numbers output else other
 
 -- for so many workers
 abbrev pub exercise_with : Option SceneNumbers → ℕ → Line
@@ -89,7 +93,7 @@ work_line command a b c d None = other
 abbrev pub line_of : List (List ℕ) → Line
 line_of (command ∷ prices ∷ []) = if bytes_eq command (codes "check") && is_name prices then check prices else other
 line_of (command ∷ a ∷ b ∷ c ∷ d ∷ []) = work_line command a b c d (Some 1)
-line_of (command ∷ a ∷ b ∷ c ∷ d ∷ last ∷ []) = if bytes_eq command (codes "scene") then scene_with (scene_numbers a b c d) last else work_line command a b c d (workers_in last)
+line_of (command ∷ a ∷ b ∷ c ∷ d ∷ last ∷ []) = if bytes_eq command (codes "scene") then named_scene (scene_numbers a b c d) last else work_line command a b c d (workers_in last)
 line_of words = other
 
 -- the line of a command

@@ -1,7 +1,7 @@
 // The words of the command line.
 ghost use Rattle.std.specs.Prelude.{◌≡◌, ◌≢◌, ◌<◌, ◌≤◌, ◌^◌, ◌↔◌, ◌∷◌, [], ℕ, IfOk, IfSome, IsNone, IsTrue};
 ghost use Rattle.std.specs.Fmt.{decimal};
-ghost use Rattle.tracker_session.specs.Words.{IsPlain, IsWish, Parsed, ParsedAs, exercise_with, is_name, number_in, replay_with, scene_numbers, scene_with, texts, work_line, workers_in, workers_of};
+ghost use Rattle.tracker_session.specs.Words.{IsPlain, IsWish, Parsed, ParsedAs, exercise_with, is_name, named_scene, number_in, replay_with, scene_numbers, texts, work_line, workers_in, workers_of};
 
 use std::alloc::{AllocError, Global};
 
@@ -245,7 +245,7 @@ fn parse_scene(
     late: &str,
     output: &str,
 ) -> Result<Command, WordsError>
-    ensures words { ParsedAs (scene_with (scene_numbers seed.now aircraft.now seconds.now late.now) output.now) result }
+    ensures words { ParsedAs (named_scene (scene_numbers seed.now aircraft.now seconds.now late.now) output.now) result }
     ensures workers { IfOk result (λ command. IsWish (workers_of command)) }
 {
     if !is_name(output) {
