@@ -1,12 +1,20 @@
 //! The tracker's program: the words of its command line, carried out over real files.
 #![tactic(auto)]
 
+ghost use Rattle.std.specs.Prelude.{◌≡◌, None};
+ghost use Rattle.io_traits.specs.declared.host.Place.{Place};
+
+use cluster_pool::{Inline, MapPool};
 use io_traits::{FileHost, Host, Place};
 use std::alloc::Global;
+use std::marker::Brand;
 use std::process::ExitCode;
 use std::rt::{Env, Files};
+use std::sync::ledger::{Blank, Ledger};
+use std::thread::Threads;
 use std::{env, io};
-use tracker_session::{Status, run_batch};
+use tracker_session::{Status, parse_words, run_batch};
+use trk_base::Steps;
 
 /// The line of want of memory, which needs no memory itself.
 const NO_MEMORY: &[u8] = b"no memory\n";
@@ -23,6 +31,39 @@ fn words<R: Env + Alloc<A = Global>>(rt: &R) -> Result<Vec<String>, Status> {
     }
 }
 
+// How many workers the words ask for. Words that are no command are told so by one.
+fn workers_of(alloc: Global, words: &[String]) -> u8 {
+    match parse_words(alloc, words) {
+        Ok(command) => command.workers(),
+        Err(_) => 1,
+    }
+}
+
+// Carries the words out over files. Where one worker does all, and where no handle is left for more, no
+// thread is started for the tracks.
+fn carry_out<R: Files + Print + Threads + Sync + Clone + Drop + Alloc<A = Global>, L: Ledger>(
+    rt: &R,
+    words: &[String],
+    files: R,
+    blank: Blank,
+) -> Status
+    requires name { blank.name ≡ L.name }
+    requires parts { blank.parts ≡ L.parts }
+    requires one { blank.parts ≡ 1 }
+{
+    let alloc = rt.alloc();
+    let mut host = FileHost::new(files);
+    let mut steps = Steps::<L>::new(blank);
+    if workers_of(alloc, words) > 1 {
+        if let Ok(threads) = rt.clone() {
+            let mut pool = MapPool::new(threads);
+            return run_batch(rt, alloc, words, &mut host, &mut pool, &mut steps);
+        }
+    }
+    let mut pool = Inline::<R>::new();
+    run_batch(rt, alloc, words, &mut host, &mut pool, &mut steps)
+}
+
 // Tells want of memory where there is no command yet. A line that can't be written leaves the status.
 fn tell_no_memory<R: Files + Print + Clone + Drop>(rt: R) -> Status {
     let _ = FileHost::new(rt).write(Place::Screen, NO_MEMORY);
@@ -32,7 +73,7 @@ fn tell_no_memory<R: Files + Print + Clone + Drop>(rt: R) -> Status {
 fn main(rt: HostRuntime) -> ExitCode {
     let status = match words(&rt) {
         Ok(words) => match rt.clone() {
-            Ok(files) => run_batch(&rt, rt.alloc(), &words, &mut FileHost::new(files)),
+            Ok(files) => carry_out::<HostRuntime, Brand>(&rt, &words, files, Blank::new(1)),
             Err(_) => tell_no_memory(rt),
         },
         Err(_) => tell_no_memory(rt),

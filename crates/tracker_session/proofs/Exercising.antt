@@ -26,6 +26,7 @@ use Rattle.tracker_session.specs.Inputs.{tells_biases}
 use Rattle.tracker_session.specs.Replay.{IsOutput, IsReplayLog, Replays, empty_log}
 use Rattle.tracker_session.specs.SceneSettings.{AreSceneSettings}
 use Rattle.tracker_session.specs.Totals.{AreTotals}
+use Rattle.tracker_session.specs.Work.{IsSpentOnItems, IsSpentOnScene}
 use Rattle.tracker_session.proofs.CertificateCounts.{certificates_count}
 use Rattle.tracker_session.proofs.Logs.{logs_same}
 use Rattle.tracker_session.proofs.Outputs.{outputs_same}
@@ -81,6 +82,15 @@ pub lines_same : (seed aircraft seconds late : ℕ) (e f : Exercised seed aircra
 lines_same seed aircraft seconds late e f =
     let same = exercises_same seed aircraft seconds late e.counts f.counts e.totals f.totals e.is f.is in
     λ i. exercise_lines (same.0 i) (same.1 i)
+
+-- ---- its steps
+
+-- what is spent on the items that are read of the recording is spent on the scene
+pub scene_spent : (seed aircraft seconds late : ℕ) (octets : List ℕ) (header : Option Header) (s : ℕ) (items : List Item) (fault : Option ℕ) (settings : Settings) (old new : ℕ) → seconds < 2 ^ 16 → octets ≡ scene seed aircraft seconds late → IsReading octets header s items fault → AreSceneSettings settings → IsSpentOnItems settings s items old new → IsSpentOnScene seed aircraft seconds late old new
+scene_spent seed aircraft seconds late octets header s items fault settings old new few is reading given spent other other_given =
+    let same = one_recording (scene seed aircraft seconds late) false header (Some First) s start items (scene_items seed aircraft seconds late) fault None (subst (λ (o : List ℕ). IsReading o header s items fault) is reading) (is_read seed aircraft seconds late few) in
+    let read = subst (λ (n : ℕ). IsSpentOnItems settings n (scene_items seed aircraft seconds late) old new) same.1 (subst (λ (xs : List Item). IsSpentOnItems settings s xs old new) same.2 spent) in
+    subst (λ (t : Settings). IsSpentOnItems t start (scene_items seed aircraft seconds late) old new) (one_scene settings other given other_given) read
 
 -- ---- the replay of the recording
 

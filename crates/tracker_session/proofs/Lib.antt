@@ -20,8 +20,11 @@ pub mod Refusing
 pub mod Replayed
 pub mod SceneRadars
 pub mod SomeReplay
+pub mod Spending
+pub mod Spent
 pub mod Tallying
 pub mod Totaling
+pub mod Touched
 pub mod Underway
 pub mod Verdicts
 pub mod Worked

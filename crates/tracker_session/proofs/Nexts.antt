@@ -1,6 +1,6 @@
 -- The next edition of a log, at a tick that was just taken.
 use Rattle.std.proofs.Common.{◌≡◌, ◌≤◌, ◌∙◌, ap, sym, refl, subst, arith, ℕ, ◌+◌, ◌-◌, List, [], ◌∷◌, ◌++◌, length, drop, append-nil, Bool, true, false}
-use Rattle.std.specs.Prelude.{Option, Some, None, All, fold, if◌then◌else◌, ◌==◌}
+use Rattle.std.specs.Prelude.{Option, Some, None, fold, if◌then◌else◌, ◌==◌}
 use Rattle.std.proofs.lemmas.Bool.{ne_eqb}
 use Rattle.std.proofs.lemmas.List.{drop-append-le, length_push, length-drop, take_all, take-append-drop, take-append-le}
 use Rattle.admission_log.specs.declared.settings.Settings.{Settings}
@@ -8,17 +8,16 @@ use Rattle.admission_log.specs.declared.events.Event.{Event}
 use Rattle.admission_log.specs.declared.events.Event.TheVariants.{Tick}
 use Rattle.admission_log.specs.Histories.{History, appended, first, tick_in}
 use Rattle.admission_log.specs.Legality.{IsLegal}
-use Rattle.edition_form.specs.declared.edition.Edition.{Edition}
-use Rattle.price_form.specs.Certificates.{IsCert}
 use Rattle.edition_form.specs.Datagrams.{AreDatagramsOf, shown_at, shown_of}
-use Rattle.edition_form.specs.Editions.{IsEdition}
 use Rattle.edition_form.specs.Prices.{ArePricesOf}
 use Rattle.std.specs.List.{concat}
 use Rattle.std.specs.Option.{option_to_list}
+use Rattle.tracker_engine.specs.Counts.{IsCertificateCount}
 use Rattle.tracker_engine.specs.Engines.{Continues, EngineState, StandsFor}
 use Rattle.tracker_engine.specs.Engines as engines
+use Rattle.tracker_session.specs.declared.editions.EditionParts.{EditionParts}
 use Rattle.tracker_session.specs.declared.editions.Editions.{Editions}
-use Rattle.tracker_session.specs.Editions.{AreGiven, HasNext, IsNewest}
+use Rattle.tracker_session.specs.Editions.{AreGiven, ArePartsOfNewest, HasNext}
 use Rattle.recording.specs.Items.{Item, datagram, tick, bias}
 use Rattle.tracker_session.specs.Taking.{shows}
 use Rattle.tracker_session.proofs.Logs.{delivery_kinds}
@@ -37,7 +36,7 @@ newest_more log None cut recent longer within is more = more ∙ append-nil rece
 newest_more log (Some event) cut recent longer within is more = more ∙ ap (λ es. es ++ event ∷ []) is ∙ sym (drop-append-le cut log.events (event ∷ []) within)
 
 -- up to a cut a log with one more event is the same
-first_kept : (log : History) (event : Event) (cut : ℕ) → cut ≤ length log.events → first cut log ≡ first cut (appended log event)
+pub first_kept : (log : History) (event : Event) (cut : ℕ) → cut ≤ length log.events → first cut log ≡ first cut (appended log event)
 first_kept log event cut within = (λ i. record { start = log.start; events = sym (take-append-le cut log.events (event ∷ []) within) i })
 
 module _ (settings : Settings) (log : History) (recent : List Event) (editions : Editions) (h : HasNext settings log recent editions) where
@@ -88,18 +87,16 @@ module _ (settings : Settings) (log : History) (recent : List Event) (editions :
   pub cut_is : last_cut log ≡ length log.events
   cut_is = ap last_cut h.parts ∙ last_tick h.earlier h.time ∙ ap (λ (l : History). length l.events) (sym h.parts)
 
-  pub newest_is : (number : ℕ) (edition : Edition) → number ≡ editions.number + 1 → IsEdition settings log editions.cut number edition → All IsCert edition.certs → IsNewest settings log edition
-  newest_is number edition n is whole = record {
-    is = subst (λ (before : ℕ). IsEdition settings log before (length (cuts_of log)) edition) (sym before_is) (subst (λ (m : ℕ). IsEdition settings log editions.cut m edition) (n ∙ sym number_is) is);
-    whole = whole;
-  }
+  picture_datagrams : (number : ℕ) (datagrams : List (List ℕ)) → number ≡ editions.number + 1 → AreDatagramsOf settings log editions.cut number datagrams → AreDatagramsOf settings log (cut_before log (length log.events)) (length (cuts_of log)) datagrams
+  picture_datagrams number datagrams n are = subst (λ (before : ℕ). AreDatagramsOf settings log before (length (cuts_of log)) datagrams) (sym before_is) (subst (λ (m : ℕ). AreDatagramsOf settings log editions.cut m datagrams) (n ∙ sym number_is) are)
+
+  pub newest_parts : (number : ℕ) (parts : EditionParts) → number ≡ editions.number + 1 → AreDatagramsOf settings log editions.cut number parts.datagrams → IsCertificateCount settings log parts.certificates → ArePartsOfNewest settings log parts
+  newest_parts number parts n are count = record { datagrams_are = picture_datagrams number parts.datagrams n are; certificates_are = count }
 
   pub picture_output : (number : ℕ) (datagrams : List (List ℕ)) (octets : List ℕ) → number ≡ editions.number + 1 → AreDatagramsOf settings log editions.cut number datagrams → octets ≡ concat datagrams → IsEditionAt settings log (newest log) octets
   picture_output number datagrams octets n are whole = record {
     datagrams = datagrams;
-    are = subst (λ (l : History). AreDatagramsOf settings l (cut_before log (length log.events)) (length (cuts_of log)) datagrams) (sym (first_all log))
-        (subst (λ (before : ℕ). AreDatagramsOf settings log before (length (cuts_of log)) datagrams) (sym before_is)
-        (subst (λ (m : ℕ). AreDatagramsOf settings log editions.cut m datagrams) (n ∙ sym number_is) are));
+    are = subst (λ (l : History). AreDatagramsOf settings l (cut_before log (length log.events)) (length (cuts_of log)) datagrams) (sym (first_all log)) (picture_datagrams number datagrams n are);
     whole = whole;
   }
 
@@ -125,10 +122,10 @@ module _ (settings : Settings) (log : History) (recent : List Event) (editions :
 
 -- ---- the octets of an edition
 
-pub newest_output : (settings : Settings) (log : History) (edition : Edition) (octets : List ℕ) → IsNewest settings log edition → octets ≡ concat edition.datagrams → IsEditionAt settings log (newest log) octets
-newest_output settings log edition octets h whole = record {
-  datagrams = edition.datagrams;
-  are = subst (λ (l : History). AreDatagramsOf settings l (cut_before log (length log.events)) (length (cuts_of log)) edition.datagrams) (sym (first_all log)) h.is.datagrams;
+pub newest_output : (settings : Settings) (log : History) (parts : EditionParts) (octets : List ℕ) → ArePartsOfNewest settings log parts → octets ≡ concat parts.datagrams → IsEditionAt settings log (newest log) octets
+newest_output settings log parts octets h whole = record {
+  datagrams = parts.datagrams;
+  are = subst (λ (l : History). AreDatagramsOf settings l (cut_before log (length log.events)) (length (cuts_of log)) parts.datagrams) (sym (first_all log)) h.datagrams_are;
   whole = whole;
 }
 

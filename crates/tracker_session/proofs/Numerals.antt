@@ -1,15 +1,17 @@
 -- Numbers and words.
-use Rattle.std.proofs.Common.{◌≡◌, ◌≢◌, ◌∙◌, ap, sym, refl, subst, inl, inr, ℕ, ◌<◌, ◌≤◌, ◌^◌, List, length, get_or, Bool, true, false, Option, Some, Result, Ok, Err, arith}
+use Rattle.std.proofs.Common.{◌≡◌, ◌≢◌, ◌∙◌, ap, sym, refl, subst, inl, inr, ℕ, ◌<◌, ◌≤◌, ◌^◌, List, ◌++◌, length, get_or, take, drop, Bool, true, false, Option, Some, Result, Ok, Err, arith}
 use Rattle.std.specs.Fmt.{decimal}
 use Rattle.std.specs.Str.Parse.{AllDigits, ParsesUnsigned, digits_value}
 use Rattle.std.proofs.lemmas.Bool.{cases_lt, lt-ltb, ltb-true}
 use Rattle.std.proofs.lemmas.Str.Parse.{IsNumeralModel, numerals_by_value, tells_digits, parse_plain, not_in_digits}
 use Rattle.std.proofs.lemmas.Fmt.{decimal-digits_value, decimal_digit, decimal_injective, decimal_nonempty, digits_decimal, digits_value-decimal, first_decimal, parse-decimal}
-use Rattle.std.specs.Prelude.{IfSome, IsNone, IsTrue, None, nat_lt, not, ◌&&◌, ◌↔◌, if◌then◌else◌}
+use Rattle.std.specs.Prelude.{IfSome, IsNone, IsTrue, None, nat_eq, nat_lt, not, ◌&&◌, ◌↔◌, if◌then◌else◌}
 use Rattle.std.specs.Str.{bytes_eq}
 use Rattle.std.proofs.lemmas.Slice.Eq.{bytes_eq-Decides}
 use Rattle.std.specs.Result.{result_ok}
-use Rattle.tracker_session.specs.Words.{IsPlain, number_in}
+use Rattle.std.specs.List.{starts_with}
+use Rattle.std.proofs.lemmas.List.{take_all, take-append-drop, take-append-le}
+use Rattle.tracker_session.specs.Words.{IsPlain, number_in, workers_in, workers_word}
 
 own : IsNumeralModel (AllDigits 10) (digits_value 10)
 own = numerals_by_value (AllDigits 10) tells_digits
@@ -108,3 +110,27 @@ no_number first last word few none =
     let v = digits_value 10 word in
     not_all (bytes_eq word (decimal v)) (not (nat_lt v first)) (not (nat_lt last v)) v
     (λ a b c. none v (omega (arith, few, at_least last v c)) ((bytes_eq-Decides word (decimal v)).0 a))
+
+-- ---- the word that tells the workers
+
+front_told : (word front rest : List ℕ) → word ≡ front ++ rest → starts_with nat_eq word front ≡ true
+front_told word front rest e =
+    (bytes_eq-Decides front (take (length front) word)).1 (sym (ap (take (length front)) e ∙ take-append-le (length front) front rest (omega arith) ∙ take_all (length front) front (omega arith)))
+
+front_back : (word front : List ℕ) → starts_with nat_eq word front ≡ true → word ≡ front ++ drop (length front) word
+front_back word front e =
+    sym (take-append-drop (length front) word) ∙ ap (λ t. t ++ drop (length front) word) (sym ((bytes_eq-Decides front (take (length front) word)).0 e))
+
+-- one that doesn't begin so
+pub tells_no_workers : (word : List ℕ) → ((rest : List ℕ) → word ≢ workers_word ++ rest) → workers_in word ≡ None
+tells_no_workers word lacks = by_test (starts_with nat_eq word workers_word) refl where
+  by_test : (b : Bool) → starts_with nat_eq word workers_word ≡ b → (if b then number_in 1 16 (drop (length workers_word) word) else None) ≡ None
+  by_test true e = absurd (lacks (drop (length workers_word) word) (front_back word workers_word e))
+  by_test false e = refl
+
+-- one that does
+pub tells_workers : (word number : List ℕ) → word ≡ workers_word ++ number → workers_in word ≡ number_in 1 16 number
+tells_workers word number e = by_test (starts_with nat_eq word workers_word) (front_told word workers_word number e) where
+  by_test : (b : Bool) → b ≡ true → (if b then number_in 1 16 (drop (length workers_word) word) else None) ≡ number_in 1 16 number
+  by_test true t = ap (λ w. number_in 1 16 (drop (length workers_word) w)) e
+  by_test false t = absurd cc

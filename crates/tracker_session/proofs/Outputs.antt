@@ -13,7 +13,9 @@ use Rattle.admission_log.specs.Histories.{History, appended, first, tick_in}
 use Rattle.edition_form.specs.Certificates.{AreLogCertificates}
 use Rattle.edition_form.specs.Datagrams.{AreDatagramsOf}
 use Rattle.edition_form.specs.Prices.{ArePricesOf}
+use Rattle.tracker_engine.specs.Spans.{AreSpan}
 use Rattle.tracker_session.specs.Replay.{AreCertificatesAt, AreOfAll, IsEditionAt, IsOutput, cut_before, cut_in, cuts_of, editions_of, end_to_end, last_cut, newest}
+use Rattle.tracker_session.specs.Work.{AreSlotsAt}
 use Rattle.tracker_session.proofs.Datagrams.{one_list_of_datagrams}
 use Rattle.tracker_session.proofs.Logs.{LogGoesOn, with_events}
 
@@ -61,7 +63,7 @@ zip_same R one (x ∷ xs) [] zs h k = absurd h
 zip_same R one (x ∷ xs) (y ∷ ys) [] h k = absurd k
 zip_same R one (x ∷ xs) (y ∷ ys) (z ∷ zs) h k = (λ i. one x y z h.0 k.0 i ∷ zip_same R one xs ys zs h.1 k.1 i)
 
-ends_append : {A : Type 0} (xs ys : List (List A)) → end_to_end (xs ++ ys) ≡ end_to_end xs ++ end_to_end ys
+pub ends_append : {A : Type 0} (xs ys : List (List A)) → end_to_end (xs ++ ys) ≡ end_to_end xs ++ end_to_end ys
 ends_append [] ys = refl
 ends_append (x ∷ xs) ys = ap (λ t. x ++ t) (ends_append xs ys) ∙ sym (append_assoc x (end_to_end xs) (end_to_end ys))
 
@@ -77,10 +79,10 @@ cuts_more : (log : History) (more : List Event) → cuts_of (with_events log mor
 cuts_more log more = ap (filter_map cut_in) (enumerate_append 1 log.events more) ∙ filter_map-append cut_in (enumerate_from 1 log.events) (enumerate_from (1 + length log.events) more)
 
 -- those of the first events, and then others
-abbrev editions_after : History → List Event → List (ℕ × ℕ)
+abbrev pub editions_after : History → List Event → List (ℕ × ℕ)
 editions_after log more = enumerate_from (1 + length (cuts_of log)) (filter_map cut_in (enumerate_from (1 + length log.events) more))
 
-editions_more : (log : History) (more : List Event) → editions_of (with_events log more) ≡ editions_of log ++ editions_after log more
+pub editions_more : (log : History) (more : List Event) → editions_of (with_events log more) ≡ editions_of log ++ editions_after log more
 editions_more log more = ap (enumerate_from 1) (cuts_more log more) ∙ enumerate_append 1 (cuts_of log) (filter_map cut_in (enumerate_from (1 + length log.events) more))
 
 -- no cut is past the end
@@ -94,6 +96,11 @@ cuts_within n (Publish number cut' ∷ events) = subst (λ (end : ℕ). AllByRec
 numbered_within : (end n : ℕ) (cuts : List ℕ) → AllByRecursion (λ cut. cut < end) cuts → AllByRecursion (λ (edition : ℕ × ℕ). edition.1 < end) (enumerate_from n cuts)
 numbered_within end n [] h = tt
 numbered_within end n (cut ∷ cuts) h = (h.0, numbered_within end (n + 1) cuts h.1)
+
+-- what follows for each edition of a log, whose cut isn't past its end, follows for all
+pub zip_within : {A : Type 0} (R S : ℕ × ℕ → List A → Type 0) (log : History) → ((edition : ℕ × ℕ) (piece : List A) → edition.1 < 1 + length log.events → R edition piece → S edition piece) → (pieces : List (List A)) → AllZip R (editions_of log) pieces → AllZip S (editions_of log) pieces
+zip_within R S log since pieces h =
+    zip_since (λ (edition : ℕ × ℕ). edition.1 < 1 + length log.events) R S since (editions_of log) pieces (numbered_within (1 + length log.events) 1 (cuts_of log) (cuts_within 1 log.events)) h
 
 -- up to a cut a longer log is the same
 first_same : (log : History) (more : List Event) (cut : ℕ) → cut < 1 + length log.events → first cut (with_events log more) ≡ first cut log
@@ -120,6 +127,13 @@ prices_kept settings log more edition octets within h = record {
 
 pub certificates_kept : (settings : Settings) → IsKept (AreCertificatesAt settings)
 certificates_kept settings log more edition certs within h = subst (λ (l : History). AreLogCertificates settings l certs) (sym (first_same log more edition.1 within)) h
+
+-- the slots of an edition of a longer log are those of the log's
+pub slots_kept_back : (log : History) (more : List Event) (edition : ℕ × ℕ) (slots : List ℕ) → edition.1 < 1 + length log.events → AreSlotsAt (with_events log more) edition slots → AreSlotsAt log edition slots
+slots_kept_back log more edition slots within h =
+    let longer = with_events log more in
+    let before : cut_before longer edition.1 ≡ cut_before log edition.1 = ap last_cut (first_same log more (edition.1 - 1) (omega (arith, within))) in
+    subst (λ (n : ℕ). AreSpan (first edition.1 log) n slots) before (subst (λ (l : History). AreSpan l (cut_before longer edition.1) slots) (first_same log more edition.1 within) h)
 
 -- ---- cuts of a log with one more event
 
@@ -154,9 +168,7 @@ newest_is log time =
 
 module _ {A : Type 0} (AreOf : History → ℕ × ℕ → List A → Type 0) (kept : IsKept AreOf) where
   editions_kept : (log : History) (more : List Event) (pieces : List (List A)) → AllZip (AreOf log) (editions_of log) pieces → AllZip (AreOf (with_events log more)) (editions_of log) pieces
-  editions_kept log more pieces h =
-      zip_since (λ (edition : ℕ × ℕ). edition.1 < 1 + length log.events) (AreOf log) (AreOf (with_events log more)) (kept log more)
-      (editions_of log) pieces (numbered_within (1 + length log.events) 1 (cuts_of log) (cuts_within 1 log.events)) h
+  editions_kept log more pieces h = zip_within (AreOf log) (AreOf (with_events log more)) log (kept log more) pieces h
 
   -- a tick gives one more edition, the newest of the log with it
   pub more_at_tick : (log : History) (time : ℕ) (piece all : List A) → AreOf (appended log (Tick time)) (newest (appended log (Tick time))) piece → AreOfAll AreOf log all → AreOfAll AreOf (appended log (Tick time)) (all ++ piece)

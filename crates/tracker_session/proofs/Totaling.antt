@@ -7,10 +7,10 @@ use Rattle.recording.specs.Items.{Item}
 use Rattle.admission_log.specs.declared.settings.Settings.{Settings}
 use Rattle.admission_log.specs.declared.events.Event.{Event}
 use Rattle.admission_log.specs.Histories.{History}
-use Rattle.edition_form.specs.declared.edition.Edition.{Edition}
 use Rattle.edition_form.specs.Certificates.{AreLogCertificates}
+use Rattle.tracker_session.specs.declared.editions.EditionParts.{EditionParts}
 use Rattle.tracker_session.specs.Counting.{counted}
-use Rattle.tracker_session.specs.Editions.{IsNewest}
+use Rattle.tracker_session.specs.Editions.{ArePartsOfNewest}
 use Rattle.tracker_session.specs.Replay.{Adds, AreCertificates, AreCertificatesAt, IsEditionAt, IsOutput, empty_log, log_with}
 use Rattle.tracker_session.specs.Taking.{shows}
 use Rattle.tracker_session.specs.Totals.{AreCounted}
@@ -43,18 +43,19 @@ module _ (settings : Settings) (log : History) (item : Item) (added : Option Eve
   }
 
   -- this edition
-  pub shown_counted : (edition : Edition) → shows added ≡ true → IsNewest settings (log_with log added) edition → AreCounted settings (log_with log added) (counted (octets + length (concat edition.datagrams))) (counted (certificates + length edition.certs))
-  shown_counted edition shown newest =
+  pub shown_counted : (parts : EditionParts) → shows added ≡ true → ArePartsOfNewest settings (log_with log added) parts → AreCounted settings (log_with log added) (counted (octets + length (concat parts.datagrams))) (counted (certificates + parts.certificates))
+  shown_counted parts shown newest =
       let longer = log_with log added in
-      let piece = newest_output settings longer edition (concat edition.datagrams) newest refl in
-      let certs = subst (λ (l : History). AreLogCertificates settings l edition.certs) (sym (first_all longer)) newest.is.certs in
+      let count = newest.certificates_are in
+      let piece = newest_output settings longer parts (concat parts.datagrams) newest refl in
+      let certs = subst (λ (l : History). AreLogCertificates settings l count.certs) (sym (first_all longer)) count.certificates in
       record {
-        output = h.output ++ concat edition.datagrams;
-        output_is = tick_grows settings (IsEditionAt settings) (output_kept settings) log item added (concat edition.datagrams) adds shown piece h.output h.output_is;
-        octets_are = ap (λ n. counted (n + length (concat edition.datagrams))) h.octets_are ∙ counted_more (length h.output) (length (concat edition.datagrams)) ∙ ap counted (sym (length-append h.output (concat edition.datagrams)));
-        certs = h.certs ++ edition.certs;
-        certs_are = tick_grows settings (AreCertificatesAt settings) (certificates_kept settings) log item added edition.certs adds shown certs h.certs h.certs_are;
-        certificates_are = ap (λ n. counted (n + length edition.certs)) h.certificates_are ∙ counted_more (length h.certs) (length edition.certs) ∙ ap counted (sym (length-append h.certs edition.certs));
+        output = h.output ++ concat parts.datagrams;
+        output_is = tick_grows settings (IsEditionAt settings) (output_kept settings) log item added (concat parts.datagrams) adds shown piece h.output h.output_is;
+        octets_are = ap (λ n. counted (n + length (concat parts.datagrams))) h.octets_are ∙ counted_more (length h.output) (length (concat parts.datagrams)) ∙ ap counted (sym (length-append h.output (concat parts.datagrams)));
+        certs = h.certs ++ count.certs;
+        certs_are = tick_grows settings (AreCertificatesAt settings) (certificates_kept settings) log item added count.certs adds shown certs h.certs h.certs_are;
+        certificates_are = ap (λ n. counted (certificates + n)) count.count_is ∙ ap (λ n. counted (n + length count.certs)) h.certificates_are ∙ counted_more (length h.certs) (length count.certs) ∙ ap counted (sym (length-append h.certs count.certs));
       }
 
 -- the same of a log and of counts that are these

@@ -33,6 +33,11 @@ GoesOn rest whole first now log = (end : End) (last : HostState) → Follows (re
 abbrev pub Stands : Settings → Bool → ℕ → (History → Type 0) → List Item → Run → Editions → Type 0
 Stands settings tells start P items run editions = (u : IsUnderway settings tells start items run editions) × P u.progress.log
 
+-- what holds of its log, and what it cost
+pub record Both (A B : Type 0) : Type 0 where
+  pub holds : A
+  pub cost : B
+
 -- before any item
 pub begins : (settings : Settings) (tells : Bool) (start : ℕ) (P : History → Type 0) (run : Run) (editions : Editions) → Keeps run (record { log = empty_log start; counts = no_counts tells }) → run.newest.items ≡ [] → AreGiven settings (empty_log start) editions → P (empty_log start) → Stands settings tells start P [] run editions
 begins settings tells start P run editions keeps none given p = (

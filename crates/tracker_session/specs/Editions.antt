@@ -1,22 +1,21 @@
 -- What is kept to give the editions of a log, and what is given of each.
-use Rattle.std.specs.Prelude.{◌≡◌, ℕ, List, All, drop, length}
+use Rattle.std.specs.Prelude.{◌≡◌, ℕ, List, drop, length}
 use Rattle.admission_log.specs.declared.settings.Settings.{Settings}
 use Rattle.admission_log.specs.declared.events.Event.{Event}
 use Rattle.admission_log.specs.declared.events.Event.TheVariants.{Tick}
 use Rattle.admission_log.specs.Histories.{History, appended, first}
 use Rattle.admission_log.specs.Legality.{IsLegal}
-use Rattle.edition_form.specs.declared.edition.Edition.{Edition}
-use Rattle.edition_form.specs.Datagrams.{shown_at}
-use Rattle.edition_form.specs.Editions.{IsEdition}
+use Rattle.edition_form.specs.Datagrams.{AreDatagramsOf, shown_at}
 use Rattle.edition_form.specs.Prices.{ArePricesOf}
-use Rattle.price_form.specs.Certificates.{IsCert}
 use Rattle.io_traits.specs.Host.{HostState}
 use Rattle.io_traits.specs.declared.host.Place.TheVariants as places
 use Rattle.session_script.specs.Steps.{PlaceWritten, WritingBroke}
 use Rattle.session_script.specs.declared.status.Status.{Status}
+use Rattle.tracker_engine.specs.Counts.{IsCertificateCount}
 use Rattle.tracker_engine.specs.Engines.{StandsFor}
 use Rattle.tracker_session.specs.declared.editions.Editions.{Editions}
 use Rattle.tracker_session.specs.declared.editions.EditionOctets.{EditionOctets}
+use Rattle.tracker_session.specs.declared.editions.EditionParts.{EditionParts}
 use Rattle.tracker_session.specs.Replay.{IsEditionAt, cut_before, cuts_of, last_cut, newest}
 
 -- All editions of the log were given: they are counted, and so are the tracks that the last one shows; and the engine stands for the events up to the last one, which it has shown.
@@ -35,10 +34,10 @@ pub record HasNext (settings : Settings) (log : History) (newest : List Event) (
   pub given : AreGiven settings earlier editions
   pub newest_are : newest ≡ drop editions.cut log.events
 
--- it is the newest edition of a log that ends with a tick, told against the one before, and its certificates can be written
-pub record IsNewest (settings : Settings) (log : History) (edition : Edition) : Type 0 where
-  pub is : IsEdition settings log (cut_before log (length log.events)) (length (cuts_of log)) edition
-  pub whole : All IsCert edition.certs
+-- the datagrams are those of the newest edition of a log that ends with a tick, told against the one before, and so many certificates are its
+pub record ArePartsOfNewest (settings : Settings) (log : History) (parts : EditionParts) : Type 0 where
+  pub datagrams_are : AreDatagramsOf settings log (cut_before log (length log.events)) (length (cuts_of log)) parts.datagrams
+  pub certificates_are : IsCertificateCount settings log parts.certificates
 
 -- the octets are those of the log's newest edition, and of its prices
 pub record AreNewest (settings : Settings) (log : History) (octets : EditionOctets) : Type 0 where

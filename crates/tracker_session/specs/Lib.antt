@@ -16,3 +16,4 @@ pub mod Screen
 pub mod Taking
 pub mod Totals
 pub mod Words
+pub mod Work

@@ -1,5 +1,5 @@
 // The top call: the words are a command, the command is carried out, and Screen is told how it ended.
-ghost use Rattle.std.specs.Prelude.{◌≡◌, ◌≢◌, None};
+ghost use Rattle.std.specs.Prelude.{◌≡◌, ◌≢◌, ◌≤◌, None};
 ghost use Rattle.io_traits.specs.Places.{HasFailed};
 ghost use Rattle.io_traits.specs.declared.host.Place.{Place};
 ghost use Rattle.session_script.specs.Ends.{ComesTo, Ended, IsForetold, MayHold};
@@ -7,26 +7,34 @@ ghost use Rattle.session_script.specs.Scripts.{Follows, end_of};
 ghost use Rattle.session_script.specs.declared.status.Status.{Status};
 ghost use Rattle.tracker_session.specs.Commands.{CommandGives, script_of};
 ghost use Rattle.tracker_session.specs.Words.{line_of, other, texts};
+ghost use Rattle.tracker_session.specs.Work.{IsSpent};
 
 use crate::commands::run_command;
 use crate::words::{WordsError, parse_words};
+use cluster_pool::Pool;
 use io_traits::{Host, Place};
 use session_script::{Status, tell};
 use std::alloc::Global;
+use std::sync::ledger::Ledger;
 use std::thread::Threads;
+use trk_base::Steps;
 
 // Follows the script of the words.
-fn run_words<R: Threads + Sync, H: Host>(
+fn run_words<R: Threads + Sync, H: Host, P: Pool, L: Ledger>(
     rt: &R,
     alloc: Global,
     words: &[String],
     host: &mut H,
+    pool: &mut P,
+    steps: &mut Steps<L>,
 ) -> Result<String, Status>
     requires { (p : Place) → (H.state host.old).bound p ≡ None }
-    ensures { Follows (script_of (line_of (texts words.now))) (end_of result) (H.state host.old) (H.state host.new) }
+    ensures follows { Follows (script_of (line_of (texts words.now))) (end_of result) (H.state host.old) (H.state host.new) }
+    ensures rises { steps.old ≤ steps.new }
+    ensures spent { IsSpent (line_of (texts words.now)) (H.state host.old) (H.state host.new) steps.old steps.new }
 {
     match parse_words(alloc, words) {
-        Ok(command) => run_command(rt, alloc, command, host),
+        Ok(command) => run_command(rt, alloc, command, host, pool, steps),
         Err(WordsError::Usage) => Err(Status::Usage),
         Err(WordsError::NoMemory) => Err(Status::Memory),
     }
@@ -35,7 +43,7 @@ fn run_words<R: Threads + Sync, H: Host>(
 /// Carries out the command that the words are, over places of which none is bound yet. Threads may be
 /// started; none outlives the call, and none is waited for but those.
 ///
-/// `replay SETTINGS INPUT OUTPUT PRICES` reads the settings, and then what Input is bound to, a
+/// `replay SETTINGS INPUT OUTPUT PRICES [--workers=N]` reads the settings, and then what Input is bound to, a
 /// recording or data blocks alone. Each datagram is admitted to one log, and each change of biases put
 /// into it. Each tick above the last one writes an edition of the log: to Output its datagrams, and then
 /// to Prices its record and its certificates. Prices begins with four octets of its own. A malformed
@@ -46,8 +54,12 @@ fn run_words<R: Threads + Sync, H: Host>(
 ///
 /// `scene SEED AIRCRAFT SECONDS LATE OUTPUT` draws the recording of a scene, and writes it to Output.
 ///
-/// `exercise SEED AIRCRAFT SECONDS LATE` replays the recording of a scene under the settings of a scene, in
+/// `exercise SEED AIRCRAFT SECONDS LATE [--workers=N]` replays the recording of a scene under the settings of a scene, in
 /// memory, and keeps nothing but counts. It touches no place but Screen.
+///
+/// Of these two the pool may run N parts of the tracks beside each other, or one without that word. What
+/// comes of the command doesn't hang on the pool, nor on N. The counter rises with the steps that the
+/// tracks take: none without a good settings document and an input that was read.
 ///
 /// - `Usage` comes exactly for other words.
 /// - `Settings` comes in `replay` exactly where Settings was read, and tells its first fault.
@@ -61,11 +73,13 @@ fn run_words<R: Threads + Sync, H: Host>(
 ///
 /// Screen gets the command's line where all was done (of `exercise` two), and else the text of the status; a text that
 /// can't be written leaves the status.
-pub fn run_batch<R: Threads + Sync, H: Host>(
+pub fn run_batch<R: Threads + Sync, H: Host, P: Pool, L: Ledger>(
     rt: &R,
     alloc: Global,
     words: &[String],
     host: &mut H,
+    pool: &mut P,
+    steps: &mut Steps<L>,
 ) -> Status
     requires { (p : Place) → (H.state host.old).bound p ≡ None }
 
@@ -81,7 +95,14 @@ pub fn run_batch<R: Threads + Sync, H: Host>(
 
     // Where no file failed and memory isn't wanting, the status is that of the command's end, also where Screen fails.
     ensures complete { ((p : Place) → p ≢ Place.Screen → HasFailed p (H.state host.old) (H.state host.new) → ⊥) → result ≢ Status.Memory → IsForetold (CommandGives (line_of (texts words.now)) (MayHold (H.state host.old))) result }
+
+    // The counter only rises.
+    ensures rises { steps.old ≤ steps.new }
+
+    // It rises, whatever the status, by at most 31 for each slot that an edition of the log takes up anew; in `replay` not
+    // at all where settings or input weren't read, or the settings have a fault, and in `check` and `scene` never.
+    ensures spent { IsSpent (line_of (texts words.now)) (H.state host.old) (H.state host.new) steps.old steps.new }
 {
-    let end = run_words(rt, alloc, words, host);
+    let end = run_words(rt, alloc, words, host, pool, steps);
     tell(alloc, end, host)
 }

@@ -9,13 +9,18 @@ mod faults;
 mod replays;
 mod scenes;
 mod words;
+mod workers;
 
 use crate::{Status, run_batch};
+use cluster_pool::{Inline, Pool};
 use io_traits::{Host, MemHost, Place, Way};
 use std::alloc::Global;
+use std::marker::Brand;
 use std::process::Abort;
+use std::sync::ledger::{Blank, Ledger};
 use std::test::Fail;
 use std::thread::Threads;
+use trk_base::Steps;
 
 /// A run: its words, what its places hold, how many octets Output, Prices and Screen take, and which
 /// calls fail; and what comes of it.
@@ -98,17 +103,23 @@ fn words_of(alloc: Global, texts: &[&str]) -> Result<Vec<String>, Fail> {
     Ok(words)
 }
 
-// Carries the words out over any host.
-fn carry_out<R: Threads + Sync, H: Host>(
+// Carries the words out over any host, by any pool.
+fn carry_out<R: Threads + Sync, H: Host, P: Pool, L: Ledger>(
     rt: &R,
     alloc: Global,
     texts: &[&str],
     host: &mut H,
+    pool: &mut P,
+    blank: Blank,
 ) -> Result<Status, Fail>
-    requires { (p : Place) → (H.state host.old).bound p ≡ None }
+    requires unbound { (p : Place) → (H.state host.old).bound p ≡ None }
+    requires name { blank.name ≡ L.name }
+    requires parts { blank.parts ≡ L.parts }
+    requires one { blank.parts ≡ 1 }
 {
     let words = words_of(alloc, texts)?;
-    Ok(run_batch(rt, alloc, &words, host))
+    let mut steps = Steps::<L>::new(blank);
+    Ok(run_batch(rt, alloc, &words, host, pool, &mut steps))
 }
 
 // The host of a run.
@@ -140,28 +151,31 @@ fn compare_places(rt: &impl Abort, run: &Run<'_>, host: &MemHost, row: usize) {
     assert_eq!(rt; host.bound(Place::Prices), prices, "at {row}");
 }
 
-// Carries out a run, and compares what came of it.
-fn compare_one(
-    rt: &(impl Abort + Threads + Sync),
+// Carries out a run by a pool, and compares what came of it.
+fn compare_one<R: Abort + Threads + Sync, P: Pool>(
+    rt: &R,
     alloc: Global,
     run: &Run<'_>,
     row: usize,
+    pool: &mut P,
 ) -> Result<(), Fail> {
     let mut host = host_of(alloc, run)?;
-    let status = carry_out(rt, alloc, run.words, &mut host)?;
+    let blank = Blank::new(1);
+    let status = carry_out::<_, _, _, Brand>(rt, alloc, run.words, &mut host, pool, blank)?;
     assert_eq!(rt; status, run.status, "at {row}");
     compare_places(rt, run, &host, row);
     Ok(())
 }
 
-/// Carries out each run, and compares what came of it.
-fn compare(
-    rt: &(impl Abort + Threads + Sync),
+/// Carries out each run by one worker, and compares what came of it.
+fn compare<R: Abort + Threads + Sync>(
+    rt: &R,
     alloc: Global,
     runs: &[Run<'_>],
 ) -> Result<(), Fail> {
+    let mut pool = Inline::<R>::new();
     for (row, run) in runs.iter().enumerate() {
-        compare_one(rt, alloc, run, row)?;
+        compare_one(rt, alloc, run, row, &mut pool)?;
     }
     Ok(())
 }

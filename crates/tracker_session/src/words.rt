@@ -1,14 +1,14 @@
 // The words of the command line.
-ghost use Rattle.std.specs.Prelude.{◌≡◌, ◌≢◌, ◌<◌, ◌≤◌, ◌^◌, ◌↔◌, ◌∷◌, [], ℕ, IfSome, IsNone, IsTrue};
+ghost use Rattle.std.specs.Prelude.{◌≡◌, ◌≢◌, ◌<◌, ◌≤◌, ◌^◌, ◌↔◌, ◌∷◌, [], ℕ, IfOk, IfSome, IsNone, IsTrue};
 ghost use Rattle.std.specs.Fmt.{decimal};
-ghost use Rattle.tracker_session.specs.Words.{IsPlain, Parsed, ParsedAs, exercise_with, is_name, number_in, replay_with, scene_numbers, texts};
+ghost use Rattle.tracker_session.specs.Words.{IsPlain, IsWish, Parsed, ParsedAs, exercise_with, is_name, named_scene, number_in, replay_with, scene_numbers, texts, work_line, workers_in, workers_of};
 
 use std::alloc::{AllocError, Global};
 
 /// A command, by its words.
 #[derive(Debug, PartialEq, Eq, Drop)]
 pub enum Command {
-    /// `replay SETTINGS INPUT OUTPUT PRICES`: replays a recording.
+    /// `replay SETTINGS INPUT OUTPUT PRICES [--workers=N]`: replays a recording.
     Replay {
         /// The name of the settings, a TOML document.
         settings: String,
@@ -34,7 +34,7 @@ pub enum Command {
         /// The name of the output, the recording.
         output: String,
     },
-    /// `exercise SEED AIRCRAFT SECONDS LATE`: replays a scene, and keeps nothing.
+    /// `exercise SEED AIRCRAFT SECONDS LATE [--workers=N]`: replays a scene, and keeps nothing.
     Exercise {
         /// What the scene is drawn from.
         seed: u64,
@@ -52,6 +52,18 @@ pub enum Command {
         /// The name of the prices.
         prices: String,
     },
+}
+
+impl Command {
+    /// How many workers share the work of the command: the number that its words give, or 1.
+    pub fn workers(&self) -> u8
+        ensures { result ≡ workers_of self.now }
+    {
+        match self {
+            Command::Replay { workers, .. } | Command::Exercise { workers, .. } => *workers,
+            Command::Scene { .. } | Command::Check { .. } => 1,
+        }
+    }
 }
 
 /// Why words are no command.
@@ -73,32 +85,35 @@ impl From<AllocError> for WordsError {
     }
 }
 
-/// The command that the words are: `replay` and four names; `check` and one; `scene`, four numbers and a name;
-/// or `exercise` and four numbers. A name isn't empty and doesn't begin with two dashes. A number has decimal digits alone, without a
-/// leading zero.
+/// The command that the words are: `replay` and four names, or `exercise` and four numbers, either of
+/// them with or without a last word `--workers=` and a number from 1 to 16; `check` and a name; or
+/// `scene`, four numbers and a name. A name isn't empty and doesn't begin with two dashes. A number has
+/// decimal digits alone, without a leading zero. Without a word for them there is one worker.
 ///
 /// `Usage` comes exactly for other words.
 pub fn parse_words(alloc: Global, words: &[String]) -> Result<Command, WordsError>
-    ensures { Parsed (texts words.now) result }
+    ensures words { Parsed (texts words.now) result }
+    ensures workers { IfOk result (λ command. IsWish (workers_of command)) }
 {
     match words {
         [command, prices] => parse_check(alloc, command.as_str(), prices.as_str()),
-        [command, a, b, c, d] => parse_five(
+        [command, a, b, c, d] => parse_work(
             alloc,
             command.as_str(),
             a.as_str(),
             b.as_str(),
             c.as_str(),
             d.as_str(),
+            Some(1),
         ),
-        [command, seed, aircraft, seconds, late, output] => parse_scene(
+        [command, a, b, c, d, last] => parse_six(
             alloc,
             command.as_str(),
-            seed.as_str(),
-            aircraft.as_str(),
-            seconds.as_str(),
-            late.as_str(),
-            output.as_str(),
+            a.as_str(),
+            b.as_str(),
+            c.as_str(),
+            d.as_str(),
+            last.as_str(),
         ),
         _ => Err(WordsError::Usage),
     }
@@ -113,7 +128,8 @@ fn is_name(word: &str) -> bool
 
 // The command of two words.
 fn parse_check(alloc: Global, command: &str, prices: &str) -> Result<Command, WordsError>
-    ensures { Parsed (command.now ∷ prices.now ∷ []) result }
+    ensures words { Parsed (command.now ∷ prices.now ∷ []) result }
+    ensures workers { IfOk result (λ command. IsWish (workers_of command)) }
 {
     if command != "check" || !is_name(prices) {
         return Err(WordsError::Usage);
@@ -122,22 +138,47 @@ fn parse_check(alloc: Global, command: &str, prices: &str) -> Result<Command, Wo
     Ok(Command::Check { prices })
 }
 
-// The command of five words.
-fn parse_five(
+// The command of six words. The last one is the name of an output, or tells the workers.
+fn parse_six(
     alloc: Global,
     command: &str,
     a: &str,
     b: &str,
     c: &str,
     d: &str,
+    last: &str,
 ) -> Result<Command, WordsError>
-    ensures { Parsed (command.now ∷ a.now ∷ b.now ∷ c.now ∷ d.now ∷ []) result }
+    ensures words { Parsed (command.now ∷ a.now ∷ b.now ∷ c.now ∷ d.now ∷ last.now ∷ []) result }
+    ensures workers { IfOk result (λ command. IsWish (workers_of command)) }
 {
+    if command == "scene" {
+        return parse_scene(alloc, a, b, c, d, last);
+    }
+    parse_work(alloc, command, a, b, c, d, workers_in(last))
+}
+
+// The command of five words that so many workers may share.
+fn parse_work(
+    alloc: Global,
+    command: &str,
+    a: &str,
+    b: &str,
+    c: &str,
+    d: &str,
+    workers: Option<u8>,
+) -> Result<Command, WordsError>
+    requires { IfSome workers IsWish }
+    ensures words { ParsedAs (work_line command.now a.now b.now c.now d.now workers) result }
+    ensures workers { IfOk result (λ command. IsWish (workers_of command)) }
+{
+    let Some(workers) = workers else {
+        return Err(WordsError::Usage);
+    };
     if command == "replay" {
-        return parse_replay(alloc, a, b, c, d);
+        return parse_replay(alloc, a, b, c, d, workers);
     }
     if command == "exercise" {
-        return parse_exercise(a, b, c, d);
+        return parse_exercise(a, b, c, d, workers);
     }
     Err(WordsError::Usage)
 }
@@ -149,8 +190,11 @@ fn parse_replay(
     input: &str,
     output: &str,
     prices: &str,
+    workers: u8,
 ) -> Result<Command, WordsError>
-    ensures { ParsedAs (replay_with settings.now input.now output.now prices.now) result }
+    requires { IsWish workers }
+    ensures words { ParsedAs (replay_with settings.now input.now output.now prices.now workers) result }
+    ensures workers { IfOk result (λ command. IsWish (workers_of command)) }
 {
     if !is_name(settings) || !is_name(input) || !is_name(output) || !is_name(prices) {
         return Err(WordsError::Usage);
@@ -164,7 +208,7 @@ fn parse_replay(
         input,
         output,
         prices,
-        workers: 1,
+        workers,
     })
 }
 
@@ -174,8 +218,11 @@ fn parse_exercise(
     aircraft: &str,
     seconds: &str,
     late: &str,
+    workers: u8,
 ) -> Result<Command, WordsError>
-    ensures { ParsedAs (exercise_with (scene_numbers seed.now aircraft.now seconds.now late.now)) result }
+    requires { IsWish workers }
+    ensures words { ParsedAs (exercise_with (scene_numbers seed.now aircraft.now seconds.now late.now) workers) result }
+    ensures workers { IfOk result (λ command. IsWish (workers_of command)) }
 {
     let Some((seed, aircraft, seconds, late)) = scene_numbers(seed, aircraft, seconds, late) else {
         return Err(WordsError::Usage);
@@ -185,23 +232,23 @@ fn parse_exercise(
         aircraft,
         seconds,
         late,
-        workers: 1,
+        workers,
     })
 }
 
-// The command of six words.
+// The command of these numbers and the name of an output.
 fn parse_scene(
     alloc: Global,
-    command: &str,
     seed: &str,
     aircraft: &str,
     seconds: &str,
     late: &str,
     output: &str,
 ) -> Result<Command, WordsError>
-    ensures { Parsed (command.now ∷ seed.now ∷ aircraft.now ∷ seconds.now ∷ late.now ∷ output.now ∷ []) result }
+    ensures words { ParsedAs (named_scene (scene_numbers seed.now aircraft.now seconds.now late.now) output.now) result }
+    ensures workers { IfOk result (λ command. IsWish (workers_of command)) }
 {
-    if command != "scene" || !is_name(output) {
+    if !is_name(output) {
         return Err(WordsError::Usage);
     }
     let Some((seed, aircraft, seconds, late)) = scene_numbers(seed, aircraft, seconds, late) else {
@@ -215,6 +262,16 @@ fn parse_scene(
         late,
         output,
     })
+}
+
+// How many workers a word asks for.
+fn workers_in(word: &str) -> Option<u8>
+    ensures told { result ≡ workers_in word.now }
+    ensures within { IfSome result IsWish }
+{
+    let number = word.strip_prefix("--workers=")?;
+    let workers = number_in(1, 16, number)?;
+    Some(workers as u8)
 }
 
 // The seed, the aircraft, the seconds and the late plots of a scene, each in its range.
@@ -256,7 +313,8 @@ fn read_number(word: &str) -> Option<u64>
 // .. where it lies in a range.
 fn number_in(first: u64, last: u64, word: &str) -> Option<u64>
     ensures number { result ≡ number_in first last word.now }
-    ensures within { IfSome result (λ n. n ≤ last) }
+    ensures least { IfSome result (λ n. first ≤ n) }
+    ensures most { IfSome result (λ n. n ≤ last) }
 {
     let Some(number) = read_number(word) else {
         return None;

@@ -44,6 +44,30 @@ fn words_of_commands(rt: HostRuntime) -> Result<(), Fail> {
     compare_words(&rt, alloc, &["check", "p"], Ok(check))
 }
 
+#[test]
+fn words_for_workers(rt: HostRuntime) -> Result<(), Fail> {
+    let alloc = rt.alloc();
+    let replay = Command::Replay {
+        settings: String::from_str(alloc, "a")?,
+        input: String::from_str(alloc, "b")?,
+        output: String::from_str(alloc, "c")?,
+        prices: String::from_str(alloc, "d")?,
+        workers: 16,
+    };
+    let exercise = Command::Exercise {
+        seed: 1,
+        aircraft: 20,
+        seconds: 30,
+        late: 2,
+        workers: 4,
+    };
+    assert_eq!(rt; replay.workers(), 16);
+    let sixteen = ["replay", "a", "b", "c", "d", "--workers=16"];
+    let four = ["exercise", "1", "20", "30", "2", "--workers=4"];
+    compare_words(&rt, alloc, &sixteen, Ok(replay))?;
+    compare_words(&rt, alloc, &four, Ok(exercise))
+}
+
 // A run of other words.
 fn refused<'a>(words: &'a [&'a str]) -> Run<'a> {
     Run {
@@ -63,12 +87,22 @@ fn refused<'a>(words: &'a [&'a str]) -> Run<'a> {
 
 #[test]
 fn other_words_are_refused(rt: HostRuntime) -> Result<(), Fail> {
-    let lines: [&[&str]; 21] = [
+    let lines: [&[&str]; 31] = [
         &[],
         &["replay", "a", "b", "c"],
         &["replay", "a", "b", "", "d"],
         &["replay", "--a", "b", "c", "d"],
-        &["replay", "a", "b", "c", "d", "--workers=2"],
+        &["replay", "a", "b", "c", "d", "--workers=0"],
+        &["replay", "a", "b", "c", "d", "--workers=17"],
+        &["replay", "a", "b", "c", "d", "--workers=02"],
+        &["replay", "a", "b", "c", "d", "--workers="],
+        &["replay", "a", "b", "c", "d", "--workers 2"],
+        &["replay", "a", "b", "c", "d", "2"],
+        &["replay", "--workers=2", "a", "b", "c", "d"],
+        &["replay", "a", "b", "c", "d", "--workers=2", "--workers=2"],
+        &["exercise", "1", "20", "30", "--workers=2", "2"],
+        &["check", "p", "--workers=2"],
+        &["scene", "1", "20", "30", "2", "r", "--workers=2"],
         &["serve", "a", "b", "c", "d"],
         &["exercise", "1", "20", "30", "101"],
         &["exercise", "1", "20", "30", "2", "x"],

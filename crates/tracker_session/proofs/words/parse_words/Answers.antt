@@ -16,8 +16,8 @@ no_line (a ∷ b ∷ c ∷ d ∷ e ∷ []) two five six = absurd (five refl)
 no_line (a ∷ b ∷ c ∷ d ∷ e ∷ f ∷ []) two five six = absurd (six refl)
 no_line (a ∷ b ∷ c ∷ d ∷ e ∷ f ∷ g ∷ more) two five six = refl
 
-pub returns-in_default : goal.returns-in_default
-returns-in_default c =
+pub returns-in_default-clause-words : goal.returns-in_default-clause-words
+returns-in_default-clause-words c =
     let words = c.args.words.now in
     let many = length-map words (λ word. string_bytes word) in
     elim c.in_default.branch [

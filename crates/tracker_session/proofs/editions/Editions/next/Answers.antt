@@ -8,14 +8,14 @@ use Rattle.tracker_session.proofs.editions.Editions.next.Goals as goal
 pub pictured-requires : goal.pictured-requires
 pictured-requires g c =
     let editions = c.args.self.now in
-    let h = c.requires in
+    let h = c.requires.next in
     record { settled = record { settings = editions.engine.settings; log = h.0; before = editions.cut; stands = c.in_ok-number.ensures.stands h.0 h.1 } }
 
 pub show-requires-clause-rises : goal.show-requires-clause-rises
 show-requires-clause-rises g c =
     let editions = c.args.self.now in
     let settings = editions.engine.settings in
-    let h = c.requires in
+    let h = c.requires.next in
     let stands = c.in_ok-number.ensures.stands h.0 h.1 in
     omega (arith, stands.before_is, c.in_ok-number.ensures.cut)
 
@@ -23,7 +23,7 @@ pub show-requires-clause-within : goal.show-requires-clause-within
 show-requires-clause-within g c =
     let editions = c.args.self.now in
     let settings = editions.engine.settings in
-    let h = c.requires in
+    let h = c.requires.next in
     omega (arith, (c.in_ok-number.ensures.stands h.0 h.1).count_is, c.in_ok-number.ensures.cut, whole_cut settings h.0 c.args.newest.now editions h.1)
 
 pub returns-clause-newest : goal.returns-clause-newest
@@ -51,3 +51,6 @@ returns-clause-given g c log h =
     let after = c.show.ensures.stands settings log (length log.events) editions.cut stands there in
     given_next settings log newest editions h c.show.new.self (c.show.ensures.number ∙ c.in_ok-number.ensures.number) (c.show.ensures.cut ∙ cut) (c.show.ensures.tracks ∙ ap length shown)
     (subst (λ (n : ℕ). StandsFor settings log (length log.events) n c.show.new.self.engine) cut after)
+
+pub returns-clause-bound : goal.returns-clause-bound
+returns-clause-bound g c log slots h span = c.reach.ensures.bound log slots h span
