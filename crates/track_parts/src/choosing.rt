@@ -8,7 +8,13 @@ use track_life::Track;
 use trk_base::NoMemory;
 
 // The side of a square of the plane in 1/64 m: 4,096 m.
-const SIDE: i64 = 262_144;
+const SIDE: u64 = 262_144;
+
+// How many squares stand in a row, and how many rows there are.
+const ROW: u64 = 2_048;
+
+// From the middle of the plane to the edge of its squares: 4,194 km.
+const TO_EDGE: i64 = 268_435_456;
 
 // How far the reach of an item goes beyond it, each way: to all squares within 2,048 m.
 const NEAR: [i64; 2] = [-131_072, 131_072];
@@ -36,14 +42,13 @@ struct Spot {
     sure: bool,
 }
 
-// An item in a square, among those with one code or among all. Of a square what stands in it comes
-// first, and then what reaches it from beside; of both what tells no more than others may.
-#[derive(Clone, Copy, PartialEq, Eq, PartialOrd, Ord)]
+// An item in a square, or one that reaches the square from beside.
+#[derive(Clone, Copy)]
 struct Entry {
-    code: Option<u16>,
-    x: i64,
-    y: i64,
+    // The number of the square, among those of all items or of the items with one code.
+    square: u64,
     reaches: bool,
+    // Whether it tells so much that it is gated by what tells less alone.
     told: bool,
     item: usize,
 }
@@ -167,7 +172,7 @@ fn join_addresses(alloc: Global, spots: &[Spot], lower: &mut [usize]) -> Result<
             named.push((address, spot.item))?;
         }
     }
-    named.sort_unstable();
+    named.sort_unstable_by_key(|pair| pair.0);
     for i in 1..named.len() {
         if named[i - 1].0 == named[i].0 {
             join(lower, named[i - 1].1, named[i].1);
@@ -176,9 +181,26 @@ fn join_addresses(alloc: Global, spots: &[Spot], lower: &mut [usize]) -> Result<
     Ok(())
 }
 
-// The square that a coordinate falls in.
-fn square(x: i64, beyond: i64) -> i64 {
-    x.saturating_add(beyond).div_euclid(SIDE)
+// In which row a coordinate falls, and in which place of a row.
+fn line(x: i64) -> u64
+    ensures { result < 2048 }
+{
+    x.saturating_add(TO_EDGE).clamp(0, 2 * TO_EDGE - 1) as u64 / SIDE
+}
+
+// 0 for all items, and from 1 on for those of each code.
+fn group(code: Option<u16>) -> u64
+    ensures { result ≤ 65536 }
+{
+    match code {
+        None => 0,
+        Some(code) => 1 + u64::from(code),
+    }
+}
+
+// The number of a square: row by row, first those of all items, and then those of each code.
+fn square(code: Option<u16>, x: i64, y: i64) -> u64 {
+    (group(code) * ROW + line(y)) * ROW + line(x)
 }
 
 // Files an item in its own square, and in those that it reaches.
@@ -189,9 +211,7 @@ fn file(
     entries: &mut Vec<Entry>,
 ) -> Result<(), NoMemory> {
     let own = Entry {
-        code,
-        x: square(spot.x, 0),
-        y: square(spot.y, 0),
+        square: square(code, spot.x, spot.y),
         reaches: false,
         told,
         item: spot.item,
@@ -206,13 +226,22 @@ fn file(
     };
     for east in reach {
         for north in reach {
-            entries.push(Entry {
-                x: square(spot.x, *east),
-                y: square(spot.y, *north),
-                reaches: true,
-                ..own
-            })?;
+            let x = spot.x.saturating_add(*east);
+            let y = spot.y.saturating_add(*north);
+            add_reached(own, square(code, x, y), entries)?;
         }
+    }
+    Ok(())
+}
+
+// Files an item in a square that it reaches, if it isn't its own.
+fn add_reached(own: Entry, square: u64, entries: &mut Vec<Entry>) -> Result<(), NoMemory> {
+    if square != own.square {
+        entries.push(Entry {
+            square,
+            reaches: true,
+            ..own
+        })?;
     }
     Ok(())
 }
@@ -241,22 +270,23 @@ fn filed(alloc: Global, spots: &[Spot]) -> Result<Vec<Entry>, NoMemory> {
             file(spot, spot.code, !tells_code(spot), &mut entries)?;
         }
     }
-    entries.sort_unstable();
+    entries.sort_unstable_by_key(|entry| entry.square);
     Ok(entries)
 }
 
 // Joins what stands in a square with what tells less than others: with all that does so there, and
 // with what reaches the square. Where all in it tell enough, what tells enough doesn't reach them.
 fn join_square(entries: &[Entry], lower: &mut [usize]) {
-    let Some(first) = entries.first() else {
+    let Some(own) = entries.iter().find(|entry| !entry.reaches) else {
         return;
     };
-    if first.reaches || entries.iter().all(|entry| entry.told) {
+    if entries.iter().all(|entry| entry.told) {
         return;
     }
+    let all_told = entries.iter().all(|entry| entry.told || entry.reaches);
     for entry in entries {
-        if !first.told || !entry.told || !entry.reaches {
-            join(lower, first.item, entry.item);
+        if !(all_told && entry.told && entry.reaches) {
+            join(lower, own.item, entry.item);
         }
     }
 }
@@ -266,17 +296,12 @@ fn join_near(alloc: Global, spots: &[Spot], lower: &mut [usize]) -> Result<(), N
     let entries = filed(alloc, spots)?;
     let mut from = 0;
     for i in 1..entries.len() + 1 {
-        if i == entries.len() || !is_one_square(&entries[i - 1], &entries[i]) {
+        if i == entries.len() || entries[i - 1].square != entries[i].square {
             join_square(&entries[from..i], lower);
             from = i;
         }
     }
     Ok(())
-}
-
-// Whether two entries are of one square and one code.
-fn is_one_square(one: &Entry, other: &Entry) -> bool {
-    one.code == other.code && one.x == other.x && one.y == other.y
 }
 
 // How many items each group has, and its first one, the smallest group first.
