@@ -1,11 +1,10 @@
 -- Parts taken out of a list of parts.
-use Rattle.std.proofs.Common.{◌≡◌, ◌≢◌, ◌∙◌, ap, sym, refl, subst, ℕ, zero, suc, ◌+◌, ◌<◌, List, [], ◌∷◌, ◌++◌, length, map, take, drop, get_or, arith, inl, inr}
-use Rattle.std.specs.Prelude.{◌⊎◌, Contains, min, max}
+use Rattle.std.proofs.Common.{◌≡◌, ◌≢◌, ◌∙◌, ap, sym, refl, subst, ℕ, zero, suc, ◌+◌, ◌<◌, List, [], ◌∷◌, ◌++◌, length, take, drop, get_or, arith, inl, inr}
+use Rattle.std.specs.Prelude.{Contains, min, max}
 use Rattle.std.specs.List.{AllByRecursion}
-use Rattle.std.specs.declared.cmp.Ordering.{Ordering}
 use Rattle.std.proofs.lemmas.Bool.{cases_lt}
-use Rattle.late_window.specs.Folding.{Rises, BeforeFirst, slots}
-use Rattle.span_clusters.specs.Interleavings.{Interleaved, KeysDiffer, EachPair}
+use Rattle.late_window.specs.Folding.{BeforeFirst}
+use Rattle.span_clusters.specs.Interleavings.{KeysDiffer, EachPair}
 use Rattle.span_clusters.specs.Parts.{Part, Cross, Without, joined}
 use Rattle.span_clusters.specs.Jobs.{NumbersDiffer, AreBeforeBoth, AreParts, CrossWith, CrossAs, part_numbers}
 use Rattle.span_clusters.proofs.Interleavings.{contains_first, contains_later, contains_cons}

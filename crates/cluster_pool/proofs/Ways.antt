@@ -1,11 +1,10 @@
 -- The runs of parts on their way over the slots of the whole.
-use Rattle.std.proofs.Common.{◌≡◌, ◌≢◌, ◌∙◌, ap, sym, refl, subst, ℕ, zero, suc, ◌+◌, ◌<◌, ◌≤◌, List, [], ◌∷◌, ◌++◌, length, map, take, drop, get_or, append_assoc, append-nil, true, false, eqb, eq-eqb, arith, inl, inr}
-use Rattle.std.specs.Prelude.{◌⊎◌, Contains, Option, Some, None}
+use Rattle.std.proofs.Common.{◌≡◌, ◌∙◌, ap, sym, refl, subst, ℕ, zero, suc, ◌+◌, ◌<◌, ◌≤◌, List, [], ◌∷◌, ◌++◌, length, map, drop, get_or, append_assoc, append-nil, true, eqb, eq-eqb, arith, inl, inr}
+use Rattle.std.specs.Prelude.{◌⊎◌, Contains, Option}
 use Rattle.std.specs.List.{AllByRecursion}
 use Rattle.std.specs.Option.{option_to_list}
-use Rattle.std.specs.declared.cmp.Ordering.{Ordering}
 use Rattle.std.specs.declared.cmp.Ordering.TheVariants.{Less}
-use Rattle.std.proofs.lemmas.Bool.{cases_lt, eqb-true, eqb-false, cond_both}
+use Rattle.std.proofs.lemmas.Bool.{cases_lt, eqb-true, cond_both}
 use Rattle.late_window.specs.Folding.{Rises, at_slot, with_slot, slots, before, after, states, OutsAt, AreOutsOf}
 use Rattle.late_window.proofs.Groups.{SlotsRise, slots_rise}
 use Rattle.late_window.proofs.Cuts.{slots_all}
@@ -15,7 +14,7 @@ use Rattle.span_clusters.specs.Parts.{Part, IsFilled, IsSplitting, DontCross, al
 use Rattle.span_clusters.proofs.Interleavings.{contains_first, contains_later, contains_cons, all_contains, both_length, all_filtered, alone}
 use Rattle.span_clusters.proofs.Separating.{Separating, SeparatingLaws}
 use Rattle.span_clusters.proofs.Resting.{empty_or, rested_step, rested_before, rested_filled, IsPartOf, rested_stays, reads}
-use Rattle.span_clusters.proofs.Spans.{AreParts, AreBrought, parts_of, bring, all_states, all_outs}
+use Rattle.span_clusters.proofs.Spans.{parts_of, bring, all_states, all_outs}
 use Rattle.cluster_pool.specs.Walks.{Left, left_states, Fills, Rests, GoesOn, GoOn, IsStart, AreAtStart, MayMerge, IsMergedSlot}
 use Rattle.cluster_pool.proofs.Halves.{pairs_right, one_join}
 

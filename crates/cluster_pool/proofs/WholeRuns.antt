@@ -1,5 +1,5 @@
 -- What joins keep of the parts of a whole, and what they cost.
-use Rattle.std.proofs.Common.{◌≡◌, ◌≢◌, ◌∙◌, ap, sym, refl, subst, ℕ, zero, suc, ◌+◌, ◌*◌, ◌<◌, ◌≤◌, List, [], ◌∷◌, ◌++◌, length, arith, inl, inr}
+use Rattle.std.proofs.Common.{◌≡◌, ◌≢◌, ap, sym, refl, subst, ℕ, ◌+◌, ◌*◌, ◌<◌, ◌≤◌, List, [], ◌∷◌, ◌++◌, length, arith, inl, inr}
 use Rattle.std.specs.Cmp.{IsTotalOrder}
 use Rattle.std.specs.Prelude.{◌⊎◌, Option, Some, None, MatchOption}
 use Rattle.std.specs.Option.{option_to_list}
@@ -7,8 +7,7 @@ use Rattle.std.specs.List.{AllByRecursion}
 use Rattle.std.specs.declared.cmp.Ordering.{Ordering}
 use Rattle.std.proofs.Math.Nat.{mul-le-mul_left}
 use Rattle.late_window.specs.Folding.{Rises, slots}
-use Rattle.span_clusters.specs.Interleavings.{EachPair}
-use Rattle.span_clusters.specs.Parts.{Part, IsSplitting, all_items, Without, joined}
+use Rattle.span_clusters.specs.Parts.{Part, IsSplitting}
 use Rattle.span_clusters.specs.Jobs.{NumbersDiffer, AreParts, filled_slots}
 use Rattle.span_clusters.proofs.FewSlots.{few_of_each, few_together}
 use Rattle.span_clusters.proofs.Joins.{joined_splitting}

@@ -1,5 +1,5 @@
 -- What joining the parts of a span keeps, and what it costs.
-use Rattle.std.specs.Prelude.{◌≡◌, ◌≢◌, ◌≤◌, ◌+◌, ◌*◌, ℕ, List, [], ◌∷◌, Contains, length}
+use Rattle.std.specs.Prelude.{◌≡◌, ◌≢◌, ◌≤◌, ◌+◌, ◌*◌, ℕ, List, Contains, length}
 use Rattle.std.specs.declared.cmp.Ordering.{Ordering}
 use Rattle.late_window.specs.Folding.{Rises, slots}
 use Rattle.span_clusters.specs.Interleavings.{Interleaved}

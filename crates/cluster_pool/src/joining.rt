@@ -42,22 +42,30 @@ fn take_both<F: Fold>(done: &mut Vec<Done<F>>, pair: (u8, u8)) -> Option<(Done<F
 fn join_pair<F: Separable, L: Ledger>(
     alloc: Global,
     done: &mut Vec<Done<F>>,
-    pair: &(u8, u8),
+    pair: (u8, u8),
     steps: &mut Steps<L>,
 ) -> Result<Option<Job<F>>, NoMemory>
-    requires differ { pair.now.0 ≢ pair.now.1 }
+    requires differ { pair.0 ≢ pair.1 }
     requires parts { AreParts F.slot_of F.key_of F.is_before F.is_beside done.old.items }
-    ensures none { IfOk result (λ job. MatchOption job ((done.new.items ≡ done.old.items) × (steps.new ≡ steps.old) × (AllByRecursion (λ p. p.number ≢ pair.now.0) done.old.items ⊎ AllByRecursion (λ p. p.number ≢ pair.now.1) done.old.items))
+    ensures none { IfOk result (λ job. MatchOption job ((done.new.items ≡ done.old.items) × (steps.new ≡ steps.old) × (AllByRecursion (λ p. p.number ≢ pair.0) done.old.items ⊎ AllByRecursion (λ p. p.number ≢ pair.1) done.old.items))
         (λ made. (p q : Part F.State F.Item) × AreTaken p q done.old.items done.new.items × AreOne F.Item.cmp F.key_of F.merged p q made × (steps.new ≡ steps.old + length (slots F.slot_of made.items)))) }
     ensures err { OnErr result (steps.new ≡ steps.old) }
 {
-    match take_both(done, *pair) {
+    match take_both(done, pair) {
         Some((one, other)) => {
             let job = join_parts(alloc, one, other, steps)?;
             Ok(Some(job))
         }
         None => Ok(None),
     }
+}
+
+// The pair at a place.
+fn pair_at(pairs: &[(u8, u8)], place: usize) -> (u8, u8)
+    requires { place < length pairs.now }
+    ensures { result ≡ slice_index_or pairs.now place result }
+{
+    pairs[place]
 }
 
 // One more job before the others, if there is one.
@@ -88,7 +96,8 @@ pub(crate) fn join_all<F: Separable, L: Ledger>(
         → steps.new + length (slots F.slot_of zs) ≤ steps.old + length (slots F.slot_of zs) * length done.items }
 {
     let mut jobs = Vec::new(alloc);
-    for pair in pairs {
+    for place in 0..pairs.len() {
+        let pair = pair_at(pairs, place);
         let job = join_pair(alloc, &mut done, pair, steps)?;
         put_first(&mut jobs, job)?;
     }

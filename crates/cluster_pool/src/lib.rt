@@ -6,8 +6,6 @@ mod joining;
 mod parts;
 mod pool;
 mod running;
-#[cfg(test)]
-mod tests;
 mod walking;
 
 pub use parts::run_in_parts;

@@ -1,4 +1,4 @@
-use Rattle.std.proofs.Common.{◌≡◌, ◌<◌, ◌≤◌, ◌+◌, ◌*◌, ◌++◌, length, rules, sym, subst, arith}
+use Rattle.std.proofs.Common.{◌≡◌, ◌<◌, ◌≤◌, ◌+◌, ◌*◌, ◌++◌, length, rules, sym, subst}
 use Rattle.std.specs.Option.{option_to_list}
 use Rattle.late_window.specs.Folding.{slots}
 use Rattle.span_clusters.proofs.Separating.{Separating, SeparatingLaws}
@@ -6,8 +6,8 @@ use Rattle.cluster_pool.proofs.TakenOut.{contains_at}
 use Rattle.cluster_pool.proofs.WholeRuns.{Joins, joins_first, joins_step, joins_bound, joins_fewer}
 use Rattle.cluster_pool.proofs.joining.join_all.Goals as goal
 
-pub loop-pair-init : goal.loop-pair-init
-loop-pair-init g c =
+pub loop-place-init : goal.loop-place-init
+loop-place-init g c =
     let S = g.row.F-State.Denot in
     let I = g.row.F-Item.Denot in
     let K = g.row.F-Key.Denot in
@@ -44,13 +44,13 @@ loop-pair-init g c =
 
 pub join_pair-requires-clause-differ : goal.join_pair-requires-clause-differ
 join_pair-requires-clause-differ g c =
-    let at = c.loop-pair.pair-index in
-    let pair = c.pair-item.result in
+    let at = c.loop-place.place in
+    let pair = c.pair_at-pair.result in
     let inside : at < length c.args.pairs.now = search rules in
-    (c.requires.there pair.0 pair.1 (contains_at c.args.pairs.now at pair inside c.pair-item.is)).differ
+    (c.requires.there pair.0 pair.1 (contains_at c.args.pairs.now at pair inside c.pair_at-pair.ensures)).differ
 
-pub loop-pair-preserved : goal.loop-pair-preserved
-loop-pair-preserved g c =
+pub loop-place-preserved : goal.loop-place-preserved
+loop-place-preserved g c =
     let S = g.row.F-State.Denot in
     let I = g.row.F-Item.Denot in
     let K = g.row.F-Key.Denot in
@@ -84,12 +84,12 @@ loop-pair-preserved g c =
       gates_rested = g.met.F.Separable.gates_rested;
     } in
     let old = c.args.done.items in
-    let at = c.loop-pair.pair-index in
-    let pair = c.pair-item.result in
+    let at = c.loop-place.place in
+    let pair = c.pair_at-pair.result in
     let inside : at < length c.args.pairs.now = search rules in
-    let there = c.requires.there pair.0 pair.1 (contains_at c.args.pairs.now at pair inside c.pair-item.is) in
+    let there = c.requires.there pair.0 pair.1 (contains_at c.args.pairs.now at pair inside c.pair_at-pair.ensures) in
     subst (λ l. Joins F L g.met.F.Separable.merged_rest old (at + 1) l c.join_pair.new.done.items c.args.steps.now c.join_pair.new.steps) (sym c.in_ok-put_first.ensures)
-    (joins_step F L g.met.F.Separable.merged_rest g.met.F.Item.Ord.total old c.loop-pair.jobs.items c.loop-pair.done.items c.join_pair.new.done.items at pair.0 pair.1 c.args.steps.now c.loop-pair.steps c.join_pair.new.steps c.in_ok-job.job c.loop-pair.invariant there c.in_ok-job.ensures.none)
+    (joins_step F L g.met.F.Separable.merged_rest g.met.F.Item.Ord.total old c.loop-place.jobs.items c.loop-place.done.items c.join_pair.new.done.items at pair.0 pair.1 c.args.steps.now c.loop-place.steps c.join_pair.new.steps c.in_ok-job.job c.loop-place.invariant there c.in_ok-job.ensures.none)
 
 pub returns-in_err-put_first-clause-bound : goal.returns-in_err-put_first-clause-bound
 returns-in_err-put_first-clause-bound g c =
@@ -126,12 +126,12 @@ returns-in_err-put_first-clause-bound g c =
       gates_rested = g.met.F.Separable.gates_rested;
     } in
     let old = c.args.done.items in
-    let at = c.loop-pair.pair-index in
-    let pair = c.pair-item.result in
+    let at = c.loop-place.place in
+    let pair = c.pair_at-pair.result in
     let inside : at < length c.args.pairs.now = search rules in
-    let there = c.requires.there pair.0 pair.1 (contains_at c.args.pairs.now at pair inside c.pair-item.is) in
-    λ s zs up i. joins_bound F L g.met.F.Separable.merged_rest old (option_to_list c.in_ok-job.job ++ c.loop-pair.jobs.items) c.join_pair.new.done.items (at + 1) c.args.steps.now c.join_pair.new.steps
-    (joins_step F L g.met.F.Separable.merged_rest g.met.F.Item.Ord.total old c.loop-pair.jobs.items c.loop-pair.done.items c.join_pair.new.done.items at pair.0 pair.1 c.args.steps.now c.loop-pair.steps c.join_pair.new.steps c.in_ok-job.job c.loop-pair.invariant there c.in_ok-job.ensures.none) s zs up i
+    let there = c.requires.there pair.0 pair.1 (contains_at c.args.pairs.now at pair inside c.pair_at-pair.ensures) in
+    λ s zs up i. joins_bound F L g.met.F.Separable.merged_rest old (option_to_list c.in_ok-job.job ++ c.loop-place.jobs.items) c.join_pair.new.done.items (at + 1) c.args.steps.now c.join_pair.new.steps
+    (joins_step F L g.met.F.Separable.merged_rest g.met.F.Item.Ord.total old c.loop-place.jobs.items c.loop-place.done.items c.join_pair.new.done.items at pair.0 pair.1 c.args.steps.now c.loop-place.steps c.join_pair.new.steps c.in_ok-job.job c.loop-place.invariant there c.in_ok-job.ensures.none) s zs up i
 
 pub returns-in_err-put_first-clause-rises : goal.returns-in_err-put_first-clause-rises
 returns-in_err-put_first-clause-rises g c =
@@ -168,11 +168,11 @@ returns-in_err-put_first-clause-rises g c =
       gates_rested = g.met.F.Separable.gates_rested;
     } in
     let old = c.args.done.items in
-    let at = c.loop-pair.pair-index in
-    let pair = c.pair-item.result in
+    let at = c.loop-place.place in
+    let pair = c.pair_at-pair.result in
     let inside : at < length c.args.pairs.now = search rules in
-    let there = c.requires.there pair.0 pair.1 (contains_at c.args.pairs.now at pair inside c.pair-item.is) in
-    (joins_step F L g.met.F.Separable.merged_rest g.met.F.Item.Ord.total old c.loop-pair.jobs.items c.loop-pair.done.items c.join_pair.new.done.items at pair.0 pair.1 c.args.steps.now c.loop-pair.steps c.join_pair.new.steps c.in_ok-job.job c.loop-pair.invariant there c.in_ok-job.ensures.none).comes.rises
+    let there = c.requires.there pair.0 pair.1 (contains_at c.args.pairs.now at pair inside c.pair_at-pair.ensures) in
+    (joins_step F L g.met.F.Separable.merged_rest g.met.F.Item.Ord.total old c.loop-place.jobs.items c.loop-place.done.items c.join_pair.new.done.items at pair.0 pair.1 c.args.steps.now c.loop-place.steps c.join_pair.new.steps c.in_ok-job.job c.loop-place.invariant there c.in_ok-job.ensures.none).comes.rises
 
 pub returns-in_err-job-clause-bound : goal.returns-in_err-job-clause-bound
 returns-in_err-job-clause-bound g c =
@@ -209,9 +209,9 @@ returns-in_err-job-clause-bound g c =
       gates_rested = g.met.F.Separable.gates_rested;
     } in
     let old = c.args.done.items in
-    let same : c.join_pair.new.steps ≡ c.loop-pair.steps = search rules in
+    let same : c.join_pair.new.steps ≡ c.loop-place.steps = search rules in
     λ s zs up i. subst (λ n. n + length (slots F.slot zs) ≤ c.args.steps.now + length (slots F.slot zs) * length old) (sym same)
-    (joins_bound F L g.met.F.Separable.merged_rest old c.loop-pair.jobs.items c.loop-pair.done.items c.loop-pair.pair-index c.args.steps.now c.loop-pair.steps c.loop-pair.invariant s zs up i)
+    (joins_bound F L g.met.F.Separable.merged_rest old c.loop-place.jobs.items c.loop-place.done.items c.loop-place.place c.args.steps.now c.loop-place.steps c.loop-place.invariant s zs up i)
 
 pub returns-clause-bound : goal.returns-clause-bound
 returns-clause-bound g c =
@@ -247,7 +247,7 @@ returns-clause-bound g c =
       out_rested = g.met.F.Separable.out_rested;
       gates_rested = g.met.F.Separable.gates_rested;
     } in
-    λ s zs up i. joins_bound F L g.met.F.Separable.merged_rest c.args.done.items c.loop-pair.jobs.items c.loop-pair.done.items c.loop-pair.pair-index c.args.steps.now c.loop-pair.steps c.loop-pair.invariant s zs up i
+    λ s zs up i. joins_bound F L g.met.F.Separable.merged_rest c.args.done.items c.loop-place.jobs.items c.loop-place.done.items c.loop-place.place c.args.steps.now c.loop-place.steps c.loop-place.invariant s zs up i
 
 pub returns-clause-fewer : goal.returns-clause-fewer
 returns-clause-fewer g c =
@@ -283,5 +283,5 @@ returns-clause-fewer g c =
       out_rested = g.met.F.Separable.out_rested;
       gates_rested = g.met.F.Separable.gates_rested;
     } in
-    let some : 0 < c.loop-pair.pair-index = search rules in
-    joins_fewer F L g.met.F.Separable.merged_rest c.args.done.items c.loop-pair.jobs.items c.loop-pair.done.items c.loop-pair.pair-index c.args.steps.now c.loop-pair.steps c.loop-pair.invariant some
+    let some : 0 < c.loop-place.place = search rules in
+    joins_fewer F L g.met.F.Separable.merged_rest c.args.done.items c.loop-place.jobs.items c.loop-place.done.items c.loop-place.place c.args.steps.now c.loop-place.steps c.loop-place.invariant some

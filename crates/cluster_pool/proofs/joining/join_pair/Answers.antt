@@ -29,5 +29,5 @@ join_parts-requires-clause-other_before g c =
 
 pub returns-in_ok-job-in-Some-clause-none : goal.returns-in_ok-job-in-Some-clause-none
 returns-in_ok-job-in-Some-clause-none g c =
-    let e = c.in_ok-job.ensures in
-    (c.in-Some.one, c.in-Some.other, c.in-Some.ensures, record { both = e.items; rising = search rules; is = λ i. record { number = e.number i; start = e.start i; items = c.in_ok-job.job.items } }, e.steps)
+    let e = c.in_ok-job-in-Some.ensures in
+    (c.in-Some.one, c.in-Some.other, c.in-Some.ensures, record { both = e.items; rising = search rules; is = λ i. record { number = e.number i; start = e.start i; items = c.in_ok-job-in-Some.job.items } }, e.steps)

@@ -1,6 +1,4 @@
-use Rattle.std.proofs.Common.{◌≡◌, ◌∙◌, ◌<◌, ◌≤◌, ◌+◌, ◌*◌, ◌++◌, List, [], ◌∷◌, length, rules, sym, subst, arith}
-use Rattle.std.specs.Prelude.{Contains}
-use Rattle.late_window.specs.Folding.{slots}
+use Rattle.std.proofs.Common.{◌≡◌, ◌≤◌, ◌+◌, ◌++◌, length, rules}
 use Rattle.span_clusters.proofs.Separating.{Separating}
 use Rattle.cluster_pool.proofs.TakenOut.{cross_numbers, none_cross, some_before, empty_lacks}
 use Rattle.cluster_pool.proofs.WholeRuns.{kept_first, kept_parts, kept_bound, kept_joined, kept_failed}
@@ -50,7 +48,7 @@ crossings-requires g c =
     let zs = c.args.items.now in
     let before = c.args.steps.now in
     let kept = c.joins.invariant in
-    record { parts = kept_parts F s zs c.joins.done.items before c.joins.steps c.requires.rising kept }
+    record { parts = rw c.deref.ensures.value (kept_parts F s zs c.joins.done.items before c.joins.steps c.requires.rising kept) }
 
 pub returns-then-is_empty-clause-clear : goal.returns-then-is_empty-clause-clear
 returns-then-is_empty-clause-clear g c =

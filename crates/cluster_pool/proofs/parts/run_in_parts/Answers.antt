@@ -1,6 +1,6 @@
-use Rattle.std.proofs.Common.{◌≡◌, ◌∙◌, ap, sym, subst, map, [], rules}
+use Rattle.std.proofs.Common.{◌∙◌, ap, sym, subst, map}
 use Rattle.std.proofs.lemmas.Result.{IfOk-weaker}
-use Rattle.late_window.specs.Folding.{slots, after, OutsAt}
+use Rattle.late_window.specs.Folding.{after, OutsAt}
 use Rattle.late_window.proofs.Cuts.{no_items}
 use Rattle.cluster_pool.proofs.parts.run_in_parts.Goals as goal
 

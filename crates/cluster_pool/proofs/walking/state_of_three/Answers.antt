@@ -25,7 +25,7 @@ merge-requires g c =
     let long : length ys ≡ 1 = search rules in
     let end : ys ≡ last ∷ [] = one_of ys last long c.index-back-0.is in
     let one : IsJoin g.F.Separable.merged (left_states ys) last.state = subst (λ l. IsJoin g.F.Separable.merged (left_states l) last.state) (sym end) refl in
-    rw same (both_halves g.F.Separable.is_beside g.F.Separable.merged g.met.F.Separable.beside_back g.met.F.Separable.beside_merged g.met.F.Separable.merged_rest ws c.requires.beside xs ys two last.state cut c.in_ok-two.ensures one).apart
+    subst (g.F.Separable.is_beside two) (sym same) (both_halves g.F.Separable.is_beside g.F.Separable.merged g.met.F.Separable.beside_back g.met.F.Separable.beside_merged g.met.F.Separable.merged_rest ws c.requires.beside xs ys two last.state cut c.in_ok-two.ensures one).apart
 
 pub returns : goal.returns
 returns g c =

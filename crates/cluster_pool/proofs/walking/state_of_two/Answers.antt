@@ -1,4 +1,4 @@
-use Rattle.std.proofs.Common.{◌≡◌, ◌∙◌, ◌∷◌, [], rules}
+use Rattle.std.proofs.Common.{◌≡◌, ◌∙◌, ◌∷◌, [], sym, subst₂, rules}
 use Rattle.std.proofs.lemmas.Result.{IfOk-weaker}
 use Rattle.span_clusters.specs.Interleavings.{IsJoin}
 use Rattle.cluster_pool.specs.Walks.{left_states}
@@ -13,7 +13,7 @@ merge-requires g c =
     let one : c.first.inside.state ≡ a.state = search rules in
     let other : c.second.inside.state ≡ b.state = search rules in
     let both : ws ≡ a ∷ b ∷ [] = two_of ws a b c.requires.two c.index-walks-0.is c.index-walks-1.is in
-    rw (one, other) (two_beside g.F.Separable.is_beside g.F.Separable.merged g.met.F.Separable.beside_back g.met.F.Separable.beside_merged g.met.F.Separable.merged_rest ws c.requires.beside a b both)
+    subst₂ g.F.Separable.is_beside (sym one) (sym other) (two_beside g.F.Separable.is_beside g.F.Separable.merged g.met.F.Separable.beside_back g.met.F.Separable.beside_merged g.met.F.Separable.merged_rest ws c.requires.beside a b both)
 
 pub returns : goal.returns
 returns g c =
