@@ -1,5 +1,5 @@
 -- Spans of entries that are all plots of known radars: what is folded of them is what is folded of their plots.
-use Rattle.std.specs.Prelude.{◌≡◌, List, IsSome}
+use Rattle.std.specs.Prelude.{List, IsSome}
 use Rattle.std.specs.List.{AllByRecursion}
 use Rattle.plot_geometry.specs.declared.radars.RadarSettings.{RadarSettings}
 use Rattle.price_form.specs.Certificates.{IsCert}

@@ -1,4 +1,4 @@
-use Rattle.std.proofs.Common.{rules, ◌≡◌, sym, ◌++◌, ◌∷◌, [], Some, None}
+use Rattle.std.proofs.Common.{rules, ◌≡◌, ◌++◌, ◌∷◌, [], Some}
 use Rattle.tracker_fold.specs.Steps.{plane}
 use Rattle.tracker_fold.proofs.Planes.{one_more}
 use Rattle.tracker_fold.proofs.Spanned.{all_more}
