@@ -42,7 +42,7 @@ returns-clause-follows g c =
     let r = c.in_ok-reading.reading in
     let items = items_of r.items.items in
     let read : HasInput octets = record { header = r.header; start = r.start; items = items; fault = r.fault; reading = c.in_ok-reading.ensures.read } in
-    let took = subst (λ (tells : Bool). Follows (items_script settings (ending tells r.fault items) (empty_log r.start) items) end old new) c.tells_biases.ensures (subst (λ (given : Settings). Follows (items_script given (ending c.tells_biases.result r.fault items) (empty_log r.start) items) end old new) c.deref.ensures c.take_items.ensures.follows) in
+    let took = subst (λ (tells : Bool). Follows (items_script settings (ending tells r.fault items) (empty_log r.start) items) end old new) c.tells_biases-tells_biases.ensures (subst (λ (given : Settings). Follows (items_script given (ending c.tells_biases-tells_biases.result r.fault items) (empty_log r.start) items) end old new) c.deref.ensures c.take_items.ensures.follows) in
     after_pick (λ (i : HasInput octets). items_script settings (ending (tells_biases octets) i.fault i.items) (empty_log i.start) i.items) read end old new took
 
 pub returns-in_err-reading-clause-touches : goal.returns-in_err-reading-clause-touches
