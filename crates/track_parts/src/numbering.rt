@@ -22,7 +22,8 @@ use trk_base::{Key, NoMemory};
 /// slot. A track has the number that the track of its birth has in the table before, the first one's
 /// being the start table, and then each confirmed track without a number is given one, in birth order.
 ///
-/// The tables are moved, and each is walked once beside the one before it.
+/// The tables are moved, and each is walked once beside the one before it. Without memory there is
+/// no table.
 pub fn numbered_tables(
     alloc: Global,
     start: &Table,
