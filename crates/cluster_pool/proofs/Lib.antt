@@ -1,1 +1,5 @@
 pub mod Gathered
+pub mod Halves
+pub mod TakenOut
+pub mod Ways
+pub mod WholeRuns

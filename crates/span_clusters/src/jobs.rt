@@ -146,4 +146,15 @@ impl<F: Fold> Done<F> {
     {
         &self.outs
     }
+
+    /// All that the part is and gave, by move: its members before the span, its items, and the
+    /// state and the out of each slot that they fill.
+    pub fn into_run(self) -> (F::State, Vec<F::Item>, Vec<F::State>, Vec<F::Out>)
+        ensures start { result.0 ≡ self.start }
+        ensures items { result.1.items ≡ self.items }
+        ensures states { result.2.items ≡ states F.next F.slot_of self.start self.items }
+        ensures outs { AreOutsOf F.next F.slot_of F.is_out self.start self.items result.3.items }
+    {
+        (self.start, self.items, self.states, self.outs)
+    }
 }
