@@ -1,17 +1,14 @@
 -- What is built of an engine where all of its log is settled is the edition of the log.
 use Rattle.std.proofs.Common.{◌≡◌, ◌∙◌, ap, sym, subst, ℕ, true, false, cond, eqb, List, [], length, map, Option, Result, Ok, Err}
-use Rattle.std.specs.Prelude.{All, IfOk}
-use Rattle.std.specs.List.{AllByRecursion, enumerate_from, range_with_len}
+use Rattle.std.specs.Prelude.{IfOk}
+use Rattle.std.specs.List.{enumerate_from, range_with_len}
 use Rattle.std.proofs.lemmas.List.{length-map}
-use Rattle.std.proofs.lemmas.List.Elements.{All-from_recursion}
 use Rattle.std.proofs.lemmas.List.FromFn.{length-enumerate_from, length-range_with_len}
 use Rattle.trk_base.specs.declared.memory.NoMemory.{NoMemory}
 use Rattle.trk_base.specs.Numbers.{slot_of}
 use Rattle.plot_geometry.specs.declared.biases.Bias.{Bias}
 use Rattle.plot_geometry.specs.declared.radars.RadarSettings.{RadarSettings}
 use Rattle.plot_geometry.specs.Biases.{bias_of}
-use Rattle.price_form.specs.Certificates.{IsCert}
-use Rattle.price_form.specs.declared.certs.Cert.{Cert}
 use Rattle.track_life.specs.Tracks.{TrackState}
 use Rattle.late_window.specs.Folding.{Rises, at_slot}
 use Rattle.late_window.specs.Windows.{state_of}
@@ -27,12 +24,9 @@ use Rattle.admission_log.proofs.Prefixes.{prefix_legal}
 use Rattle.tracker_fold.specs.declared.state.TrackerState.{TrackerState}
 use Rattle.tracker_fold.specs.Keys.{key_in}
 use Rattle.tracker_fold.specs.Steps.{radars_after}
-use Rattle.edition_form.specs.declared.edition.Built.{Built}
 use Rattle.edition_form.specs.declared.edition.Pictured.{Pictured}
 use Rattle.edition_form.specs.declared.lines.ShownLine.{ShownLine}
-use Rattle.edition_form.specs.Certificates.{AreLogCertificates}
 use Rattle.edition_form.specs.Datagrams.{AreDatagramsOf, ArePictured, lines_in, shown_at, shown_of}
-use Rattle.edition_form.specs.Editions.{IsEdition}
 use Rattle.edition_form.specs.Folding.{table_of}
 use Rattle.edition_form.specs.Lines.{RiseByNumber}
 use Rattle.edition_form.specs.Pictures.{picture, HaveOwnNumbers, AreEarlier}
@@ -102,10 +96,6 @@ module _ (settings : Settings) (log : History) (before : ℕ) (given : Settings)
 
   -- ---- what is built
 
-  pub shown_is : (r : Result Built NoMemory) → IfOk r (λ b. b.shown ≡ lines_in (picture given biases table services time)) → IfOk r (λ b. b.shown ≡ shown_of settings log)
-  shown_is (Ok b) h = h ∙ (λ i. lines_in (picture (are.settings_are i) (are.biases_are i) (are.table_is i) (are.services_are i) (are.time_is i)))
-  shown_is (Err e) h = tt
-
   pub lines_are : (r : Result Pictured NoMemory) → IfOk r (λ p. p.shown ≡ lines_in (picture given biases table services time)) → IfOk r (λ p. p.shown ≡ shown_of settings log)
   lines_are (Ok p) h = h ∙ (λ i. lines_in (picture (are.settings_are i) (are.biases_are i) (are.table_is i) (are.services_are i) (are.time_is i)))
   lines_are (Err e) h = tt
@@ -115,25 +105,3 @@ module _ (settings : Settings) (log : History) (before : ℕ) (given : Settings)
   datagrams_are number (Ok p) d =
       subst (λ (z : Settings × (List Bias × (List TrackState × (List (Option ℕ) × (ℕ × List ShownLine))))). ArePictured z.0 (picture z.0 z.1.0 z.1.1.0 z.1.1.1.0 z.1.1.1.1.0) z.1.1.1.1.1 number p.datagrams)
       (λ i. (are.settings_are i, (are.biases_are i, (are.table_is i, (are.services_are i, (are.time_is i, are.old_are i)))))) d
-
-  pub edition_is : (number cut at : ℕ) (certs : List Cert) (r : Result Built NoMemory) → cut ≡ length log.events → at ≡ before → AreLogCertificates settings log certs
-      → IfOk r (λ b. b.edition.number ≡ number) → IfOk r (λ b. b.edition.cut ≡ cut) → IfOk r (λ b. b.edition.before ≡ at) → IfOk r (λ b. b.edition.time ≡ time)
-      → IfOk r (λ b. ArePictured given (picture given biases table services time) old number b.edition.datagrams) → IfOk r (λ b. b.edition.certs ≡ certs)
-      → IfOk r (λ b. IsEdition settings log before number b.edition)
-  edition_is number cut at certs (Err e) whole at_is log_certs n k b t d c = tt
-  edition_is number cut at certs (Ok built) whole at_is log_certs n k b t d c = record {
-    number_is = n;
-    cut = k ∙ whole;
-    before_is = b ∙ at_is;
-    time = t ∙ are.time_is;
-    datagrams =
-        subst (λ (z : Settings × (List Bias × (List TrackState × (List (Option ℕ) × (ℕ × List ShownLine))))). ArePictured z.0 (picture z.0 z.1.0 z.1.1.0 z.1.1.1.0 z.1.1.1.1.0) z.1.1.1.1.1 number built.edition.datagrams)
-        (λ i. (are.settings_are i, (are.biases_are i, (are.table_is i, (are.services_are i, (are.time_is i, are.old_are i)))))) d;
-    certs = subst (AreLogCertificates settings log) (sym c) log_certs;
-  }
-
--- ---- its certificates are whole
-
-pub all_certs : (certs : List Cert) (r : Result Built NoMemory) → AllByRecursion IsCert certs → IfOk r (λ b. b.edition.certs ≡ certs) → IfOk r (λ b. All IsCert b.edition.certs)
-all_certs certs (Ok b) whole c = All-from_recursion IsCert b.edition.certs (subst (AllByRecursion IsCert) (sym c) whole)
-all_certs certs (Err e) whole c = tt

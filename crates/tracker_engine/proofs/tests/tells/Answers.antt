@@ -4,6 +4,6 @@ use Rattle.tracker_engine.specs.Engines.{StandsFor}
 use Rattle.tracker_engine.proofs.tests.tells.Goals as goal
 
 pub follow-requires-clause-stands : goal.follow-requires-clause-stands
-follow-requires-clause-stands g c =
+follow-requires-clause-stands g c κs within =
     let stands = subst (λ (z : Settings × ℕ). StandsFor z.0 (record { start = z.1; events = [] }) 0 0 c.in_ok-engine.engine) (λ i. (c.in_ok-new.ensures.ok i, c.start.ensures i)) c.in_ok-engine.ensures in
     (c.args.settings, 0, c.loop-item.invariant.legal, stands)

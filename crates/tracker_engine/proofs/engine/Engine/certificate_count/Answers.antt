@@ -1,4 +1,4 @@
-use Rattle.std.proofs.Common.{◌∙◌, ap, sym, subst, length, refl}
+use Rattle.std.proofs.Common.{◌∙◌, ap, sym, subst, length}
 use Rattle.admission_log.specs.Histories.{low_at}
 use Rattle.tracker_engine.specs.Engines.{StandsFor}
 use Rattle.tracker_engine.proofs.Tables.{certs_counted}

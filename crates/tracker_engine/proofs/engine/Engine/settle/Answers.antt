@@ -1,4 +1,4 @@
-use Rattle.std.proofs.Common.{◌∙◌, ◌+◌, ap, sym, subst, length, arith}
+use Rattle.std.proofs.Common.{◌∙◌, ap, sym, subst, length, arith}
 use Rattle.std.specs.Prelude.{filter, nat_le}
 use Rattle.std.specs.Arc.{arc_value}
 use Rattle.late_window.specs.Folding.{below, slots}
