@@ -59,8 +59,6 @@ pub fn run_command<R: Threads + Sync, H: Host, P: Pool, L: Ledger>(
             seconds,
             late,
             workers,
-        } => Ok(exercise::exercise(
-            alloc, seed, aircraft, seconds, late, pool, workers, steps,
-        )?),
+        } => Ok(exercise::exercise(alloc, seed, aircraft, seconds, late, pool, workers, steps)?),
     }
 }

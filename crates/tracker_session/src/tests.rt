@@ -168,11 +168,7 @@ fn compare_one<R: Abort + Threads + Sync, P: Pool>(
 }
 
 /// Carries out each run by one worker, and compares what came of it.
-fn compare<R: Abort + Threads + Sync>(
-    rt: &R,
-    alloc: Global,
-    runs: &[Run<'_>],
-) -> Result<(), Fail> {
+fn compare<R: Abort + Threads + Sync>(rt: &R, alloc: Global, runs: &[Run<'_>]) -> Result<(), Fail> {
     let mut pool = Inline::<R>::new();
     for (row, run) in runs.iter().enumerate() {
         compare_one(rt, alloc, run, row, &mut pool)?;

@@ -148,7 +148,15 @@ fn replay_octets<H: Host, P: Pool, L: Ledger>(
     let editions = Editions::new(alloc, settings.clone()?, reading.start)?;
     let tells_biases = tells_biases(octets);
     take_items(
-        alloc, &settings, tells_biases, &reading, editions, host, pool, workers, steps,
+        alloc,
+        &settings,
+        tells_biases,
+        &reading,
+        editions,
+        host,
+        pool,
+        workers,
+        steps,
     )
 }
 

@@ -160,7 +160,10 @@ fn exercised<'a>(words: &'a [&'a str]) -> Run<'a> {
 fn as_many_workers(rt: HostRuntime) -> Result<(), Fail> {
     let alloc = rt.alloc();
     let mut pool = MapPool::new(rt.clone()?);
-    for (row, last) in ["--workers=1", "--workers=4", "--workers=16"].iter().enumerate() {
+    for (row, last) in ["--workers=1", "--workers=4", "--workers=16"]
+        .iter()
+        .enumerate()
+    {
         let words = ["replay", "a", "b", "c", "d", *last];
         compare_one(&rt, alloc, &late(&words), row, &mut pool)?;
         let words = ["exercise", "1", "20", "30", "2", *last];

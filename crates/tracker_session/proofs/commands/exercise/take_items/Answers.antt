@@ -53,7 +53,7 @@ pub returns-in_err-take-clause-rises : goal.returns-in_err-take-clause-rises
 returns-in_err-take-clause-rises g c = c.loop-item.invariant.2
 
 pub advance-requires-clause-next : goal.advance-requires-clause-next
-advance-requires-clause-next g c κs =
+advance-requires-clause-next g c κs lives =
     let u = c.loop-item.invariant.0 in
     let m = c.in_ok-take.ensures u.progress u.keeps in
     let has = has_next c.args.settings.now false c.args.reading.now.start _ c.loop-item.run c.take.new.self c.loop-item.editions u (item_of c.item-item.result) c.in_ok-take.field-0 m (m.takes.shown_is ∙ c.if-branch.true) in

@@ -83,14 +83,14 @@ returns-clause-spent g c =
     elim c.replay_under.ensures.spent [
       | inl same ↦ inl same
       | inr input ↦ inr (record {
-          document = document;
-          read = read_still places.Settings document (places.Input ∷ places.Output ∷ places.Prices ∷ []) (places.Input ∷ []) (places.Output ∷ places.Prices ∷ []) old mid new r.read c.replay_under.ensures.touches refl refl refl;
-          settings = given;
-          good = good;
-          input = record {
-            octets = input.octets;
-            read = read_since places.Input input.octets (places.Settings ∷ []) (places.Settings ∷ []) [] old mid new r.touches input.read refl refl refl;
-            spent = input.spent;
-          };
-        })
+        document = document;
+        read = read_still places.Settings document (places.Input ∷ places.Output ∷ places.Prices ∷ []) (places.Input ∷ []) (places.Output ∷ places.Prices ∷ []) old mid new r.read c.replay_under.ensures.touches refl refl refl;
+        settings = given;
+        good = good;
+        input = record {
+          octets = input.octets;
+          read = read_since places.Input input.octets (places.Settings ∷ []) (places.Settings ∷ []) [] old mid new r.touches input.read refl refl refl;
+          spent = input.spent;
+        };
+      })
     ]

@@ -70,7 +70,7 @@ returns-in_err-take-clause-follows g c =
     ended_so (items_script settings next start items) (Err Memory) (end_of c.from_residual.result) (state c.args.host.now) host (search rules) (c.loop-item.invariant.3.holds (Err Memory) host (gave_up (items_script settings next c.loop-item.invariant.0.progress.log (drop c.loop-item.item-index items)) host))
 
 pub next-requires-clause-next : goal.next-requires-clause-next
-next-requires-clause-next g c κs =
+next-requires-clause-next g c κs lives =
     let u = c.loop-item.invariant.0 in
     let m = c.in_ok-take.ensures u.progress u.keeps in
     let has = has_next c.args.settings.now c.args.tells_biases c.args.reading.now.start _ c.loop-item.run c.take.new.self c.loop-item.editions u (item_of c.item-item.result) c.in_ok-take.field-0 m (m.takes.shown_is ∙ c.if-branch.true) in

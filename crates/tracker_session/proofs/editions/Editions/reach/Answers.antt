@@ -14,10 +14,10 @@ returns-clause-stands g c log h =
     c.in_ok-settle.ensures.stands settings log editions.cut editions.cut (absorbed settings log c.args.newest.now editions h c.absorb.new.self c.in_ok-absorb.ensures.stands)
 
 pub settle-requires-clause-least : goal.settle-requires-clause-least
-settle-requires-clause-least g c κs = c.requires.workers.some
+settle-requires-clause-least g c κs lives = c.requires.workers.some
 
 pub settle-requires-clause-most : goal.settle-requires-clause-most
-settle-requires-clause-most g c κs = c.requires.workers.few
+settle-requires-clause-most g c κs lives = c.requires.workers.few
 
 pub returns-in_err-settle-clause-bound : goal.returns-in_err-settle-clause-bound
 returns-in_err-settle-clause-bound g c log slots h span =
