@@ -113,7 +113,7 @@ all_tokens station fs c ss feeders fed new subscribers read = record {
   feeders_own = all_at (IsFeederOf station) fs (λ n lt. weaker_at (λ x h. record { turn = own_new station.lock x.turn (n + 1) h.turn; number = ap (λ (t : Token Event Base). t.number) h.turn ∙ ap (λ (m : ℕ). m + 1) (sym h.feed_is) }) fs n (feeders n lt));
   each_feed = λ feed lt. some_at (λ (x : Feeder). x.feed ≡ feed) fs feed (weaker_at (λ x h. h.feed_is) fs feed (feeders feed (omega (arith, lt, fed))));
   feed_count = fed;
-  conductor_own = record { turn = own_new station.lock c.turn 0 new.turn; number = ap (λ (t : Token Event Base). t.number) new.turn };
+  conductor_own = record { turn = own_new station.lock c.turn 0 new.turn; number = ap (λ (t : Token Event Base). t.number) new.turn; roomy = new.roomy };
   subscribers_own = all_at (IsSubscriberOf station) ss (λ n lt. weaker_at (λ x h. record { turn = own_new station.lock x.turn (station.feeds + 1 + n) h.turn; number = ap (λ (t : Token Event Base). t.number) h.turn ∙ ap (λ (m : ℕ). station.feeds + 1 + m) (sym h.reader_is) }) ss n (subscribers n lt));
   each_reader = λ reader lt. some_at (λ (x : Subscriber). x.reader ≡ reader) ss reader (weaker_at (λ x h. h.reader_is) ss reader (subscribers reader (omega (arith, lt, read))));
   reader_count = read;

@@ -1,5 +1,5 @@
 -- A station's tokens, and what they know.
-use Rattle.std.specs.Prelude.{◌≡◌, ◌+◌, ◌<◌, ◌≤◌, ℕ, All, Any, List, [], take, length}
+use Rattle.std.specs.Prelude.{◌≡◌, ◌+◌, ◌<◌, ◌≤◌, ℕ, All, Any, List, [], take, length, vec_capacity}
 use Rattle.turn_lock.specs.Turns.{Token, IsTurnOf, newcomer}
 use Rattle.admission_log.specs.declared.settings.Settings.{Settings}
 use Rattle.admission_log.specs.declared.events.Event.{Event}
@@ -21,6 +21,10 @@ start_of station = station.lock.base.start
 abbrev pub log_with : Station → List Event → History
 log_with station events = record { start = start_of station; events = events }
 
+-- the conductor's room is empty, and takes the turns of all tokens
+abbrev pub HasRoom : Station → Conductor → Type 0
+HasRoom station by = (by.room.items ≡ []) × (1 + station.feeds + station.readers ≤ vec_capacity by.room)
+
 -- the token is the station's
 pub record IsFeederOf (station : Station) (by : Feeder) : Type 0 where
   pub turn : IsTurnOf station.lock by.turn
@@ -29,6 +33,7 @@ pub record IsFeederOf (station : Station) (by : Feeder) : Type 0 where
 pub record IsConductorOf (station : Station) (by : Conductor) : Type 0 where
   pub turn : IsTurnOf station.lock by.turn
   pub number : by.turn.number ≡ 0
+  pub roomy : HasRoom station by
 
 pub record IsSubscriberOf (station : Station) (by : Subscriber) : Type 0 where
   pub turn : IsTurnOf station.lock by.turn
@@ -47,6 +52,7 @@ pub record IsNewFeeder (station : Station) (feed : ℕ) (by : Feeder) : Type 0 w
 pub record IsNewConductor (station : Station) (by : Conductor) : Type 0 where
   pub turn : by.turn ≡ newcomer station.lock 0
   pub gathered : gathered_of by ≡ []
+  pub roomy : HasRoom station by
 
 pub record IsNewSubscriber (station : Station) (reader : ℕ) (by : Subscriber) : Type 0 where
   pub turn : by.turn ≡ newcomer station.lock (station.feeds + 1 + reader)

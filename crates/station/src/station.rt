@@ -1,5 +1,5 @@
 // The station.
-ghost use Rattle.std.specs.Prelude.{◌≡◌, ◌+◌, ◌≤◌, [], vec_capacity};
+ghost use Rattle.std.specs.Prelude.{◌≡◌, ◌+◌};
 
 use crate::shared::SharedLog;
 use crate::{Conductor, Feeder, Subscriber};
@@ -7,7 +7,7 @@ use admission_log::Event;
 use edition_form::Edition;
 use std::alloc::Global;
 use std::sync::Arc;
-use turn_lock::{Turn, TurnLock};
+use turn_lock::TurnLock;
 
 mod calls;
 mod closing;
@@ -27,10 +27,7 @@ pub struct Station {
     lock: TurnLock<SharedLog>,
     feeds: u8,
     readers: u8,
-    // Room for the turns of all tokens.
-    room: Vec<Turn<SharedLog>>,
     ghost seats: { lock.seats ≡ 1 + feeds + readers },
-    ghost roomy: { (room.items ≡ []) × (1 + feeds + readers ≤ vec_capacity room) },
 }
 
 /// A station with its tokens.

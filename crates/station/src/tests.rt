@@ -13,6 +13,8 @@ use std::test::Fail;
 use track_life::LifeSettings;
 use trk_base::{NoMemory, Sequence};
 
+mod beside;
+
 const START: u64 = 4_608_000;
 
 // Settings of one radar (1, 1) at the plane's origin.

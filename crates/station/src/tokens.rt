@@ -19,6 +19,9 @@ pub struct Conductor {
     pub(crate) turn: Turn<SharedLog>,
     // How many events it has gathered.
     pub(crate) gathered: u64,
+    // Room for the turns of all tokens, which it brings to the close. The station has no turns, since
+    // threads share it, and a turn is moved and never shared.
+    pub(crate) room: Vec<Turn<SharedLog>>,
     ghost made: { AllAt is_of_conductor turn.mine turn.seen },
     ghost within: { gathered ≤ length turn.seen },
 }

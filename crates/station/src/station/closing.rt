@@ -39,8 +39,8 @@ impl Station {
         ensures conducted_all { (p : ℕ) → stands_at is_of_conductor p result.events.items ≡ true → is_member p conductor.turn.mine ≡ true }
         ensures told { All (λ x. x.turn.told ≤ published_of (log_with self result.events.items)) subscribers.items }
     {
-        let Station { lock, mut room, .. } = self;
-        let Conductor { turn, .. } = conductor;
+        let Station { lock, .. } = self;
+        let Conductor { turn, mut room, .. } = conductor;
         room.push_reserved(turn);
         take_feeders(feeders, &mut room);
         take_subscribers(subscribers, &mut room);

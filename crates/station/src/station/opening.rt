@@ -47,7 +47,11 @@ impl Station {
         let Some(turn) = turns.next() else {
             unreachable!()
         };
-        let conductor = Conductor { turn, gathered: 0 };
+        let conductor = Conductor {
+            turn,
+            gathered: 0,
+            room,
+        };
         deal_feeders(&mut turns, feeds, &mut feeders);
         deal_subscribers(&mut turns, readers, &mut subscribers);
         let station = Station {
@@ -55,7 +59,6 @@ impl Station {
             lock,
             feeds,
             readers,
-            room,
         };
         Ok(Opened {
             station,

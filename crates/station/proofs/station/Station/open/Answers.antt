@@ -1,5 +1,5 @@
 use Rattle.std.proofs.Common.{rules, ◌≡◌, ◌∙◌, ◌+◌, ◌<◌, ◌≤◌, ap, sym, subst, true≢false, List, [], ◌∷◌, ◌++◌, ℕ, map, length, take, arith}
-use Rattle.std.specs.Prelude.{vec_len}
+use Rattle.std.specs.Prelude.{vec_len, vec_capacity}
 use Rattle.std.specs.List.{All}
 use Rattle.std.specs.Vec.Iter.{into_iter_items, into_iter_len}
 use Rattle.std.proofs.lemmas.List.Elements.{All-rest}
@@ -52,7 +52,8 @@ pub returns-clause-conductor : goal.returns-clause-conductor
 returns-clause-conductor c = let steps : into_iter_items c.into_iter-turns.result ≡ c.in-Some.turn ∷ into_iter_items c.next.new.self = search rules in
     let are : c.in_ok-lock.turns.items ≡ c.in-Some.turn ∷ into_iter_items c.next.new.self = sym c.into_iter-turns.ensures.rest ∙ steps in
     let head : c.in-Some.turn ≡ newcomer c.in_ok-lock.lock 0 = head_is c.in_ok-lock.lock c.in_ok-lock.turns.items c.in-Some.turn (into_iter_items c.next.new.self) c.in_ok-lock.ensures.turns are in
-    record { turn = head; gathered = ap (λ (t : Token Event Base). take 0 t.seen) head }
+    let roomy : (c.in_ok-room.room.items ≡ []) × (1 + c.args.feeds + c.args.readers ≤ vec_capacity c.in_ok-room.room) = search rules in
+    record { turn = head; gathered = ap (λ (t : Token Event Base). take 0 t.seen) head; roomy = roomy }
 
 pub returns-clause-subscribers : goal.returns-clause-subscribers
 returns-clause-subscribers c = let steps : into_iter_items c.into_iter-turns.result ≡ c.in-Some.turn ∷ into_iter_items c.next.new.self = search rules in
@@ -72,8 +73,9 @@ returns-clause-all c = let steps : into_iter_items c.into_iter-turns.result ≡ 
     let tail = tail_at c.in_ok-lock.lock c.in_ok-lock.turns.items c.in-Some.turn (into_iter_items c.next.new.self) c.in_ok-lock.ensures.turns are in
     let fed : length c.deal_feeders.new.feeders.items ≡ c.args.feeds = search rules in
     let read : length c.deal_subscribers.new.subscribers.items ≡ c.args.readers = search rules in
+    let roomy : (c.in_ok-room.room.items ≡ []) × (1 + c.args.feeds + c.args.readers ≤ vec_capacity c.in_ok-room.room) = search rules in
     all_tokens _ c.deal_feeders.new.feeders.items _ c.deal_subscribers.new.subscribers.items
     (new_feeders _ c.deal_feeders.new.feeders.items (into_iter_items c.next.new.self) (into_iter_items c.deal_feeders.new.turns) c.args.feeds c.deal_feeders.ensures.turns c.deal_feeders.ensures.feeds fed tail) fed
-    record { turn = head; gathered = ap (λ (t : Token Event Base). take 0 t.seen) head }
+    record { turn = head; gathered = ap (λ (t : Token Event Base). take 0 t.seen) head; roomy = roomy }
     (new_subscribers _ c.deal_feeders.new.feeders.items c.deal_subscribers.new.subscribers.items (into_iter_items c.next.new.self) (into_iter_items c.deal_feeders.new.turns) (into_iter_items c.deal_subscribers.new.turns) c.args.readers
     c.deal_feeders.ensures.turns fed c.deal_subscribers.ensures.turns c.deal_subscribers.ensures.readers read c.deal_subscribers.ensures.numbers tail) read
