@@ -1,7 +1,8 @@
 // Assignment problems, and what their solution tells.
+use short_list::ShortList;
 use std::alloc::Global;
 use std::marker::Model;
-use trk_base::{NoMemory, Sequence, TryCopy};
+use trk_base::{NoMemory, TryCopy};
 
 /// An assignment problem: a batch's plots, the tracks, and what each gate costs.
 ///
@@ -14,7 +15,7 @@ pub struct Costs {
     /// How many tracks there are.
     pub tracks: u32,
     /// Each gate: the plot's place, the track's place, and the cost.
-    pub edges: Sequence<(u32, u32, u16)>,
+    pub edges: ShortList<(u32, u32, u16)>,
 }
 
 impl Model for Costs {
@@ -45,11 +46,11 @@ impl TryCopy for Costs {
 #[derive(Debug, Drop)]
 pub struct Solved {
     /// For each plot the place of its track, or none.
-    pub pairing: Sequence<Option<u32>>,
+    pub pairing: ShortList<Option<u32>>,
     /// The price of each plot, at most 4,097.
-    pub u: Sequence<i64>,
+    pub u: ShortList<i64>,
     /// The price of each track, at most 0.
-    pub v: Sequence<i64>,
+    pub v: ShortList<i64>,
     /// The pairing's cost, which is the sum of all prices.
     pub cost: i64,
 }

@@ -1,12 +1,13 @@
 // The least pairing of one plot, in closed form. Nearly every component of a batch has one plot.
 
-ghost use Rattle.std.specs.Prelude.{◌≡◌, length, IfOk};
+ghost use Rattle.std.specs.Prelude.{◌≡◌, length, pos, replicate, IfOk};
 ghost use Rattle.assignment_dual.specs.Problems.{IsSolvedBy};
 ghost use Rattle.assignment_dual.specs.Single.{IsNearest};
 
 use crate::{Costs, Solved};
+use short_list::ShortList;
 use std::alloc::Global;
-use trk_base::{MISS_COST, NoMemory, Sequence};
+use trk_base::{MISS_COST, NoMemory};
 
 // The first of the tracks that cost least, or none, and what it costs.
 fn nearest(costs: &Costs) -> (Option<u32>, u32)
@@ -25,6 +26,16 @@ fn nearest(costs: &Costs) -> (Option<u32>, u32)
     (entry, least)
 }
 
+// A price of 0 for each track.
+fn free_tracks(alloc: Global, tracks: usize) -> Result<ShortList<i64>, NoMemory>
+    ensures { IfOk result (λ v. v ≡ replicate tracks (pos 0)) }
+{
+    if tracks == 1 {
+        return Ok(ShortList::one(0));
+    }
+    Ok(ShortList::of(vec![in alloc; 0i64; tracks]?))
+}
+
 /// The least pairing of one plot: the first of the tracks that cost least, or none where no track
 /// gates it. The price of the plot is the cost, and those of the tracks are 0.
 pub fn solve_single(alloc: Global, costs: &Costs) -> Result<Solved, NoMemory>
@@ -33,13 +44,11 @@ pub fn solve_single(alloc: Global, costs: &Costs) -> Result<Solved, NoMemory>
 {
     let (entry, least) = nearest(costs);
     let cost = i64::from(least);
-    let pairing = vec![in alloc; entry]?;
-    let u = vec![in alloc; cost]?;
-    let v = vec![in alloc; 0i64; costs.tracks as usize]?;
+    let v = free_tracks(alloc, costs.tracks as usize)?;
     Ok(Solved {
-        pairing: Sequence::of(pairing),
-        u: Sequence::of(u),
-        v: Sequence::of(v),
+        pairing: ShortList::one(entry),
+        u: ShortList::one(cost),
+        v,
         cost,
     })
 }

@@ -17,8 +17,9 @@ use crate::search::Search;
 use crate::single::solve_single;
 use crate::tie::first_pairing;
 use crate::{Costs, Solved};
+use short_list::ShortList;
 use std::alloc::Global;
-use trk_base::{MISS_COST, NoMemory, Sequence};
+use trk_base::{MISS_COST, NoMemory};
 
 // The first prices: the plots stand out at 0, and the tracks pay for being alone.
 fn first_prices(alloc: Global, plots: usize, count: usize) -> Result<Vec<u32>, NoMemory>
@@ -106,9 +107,9 @@ fn answer(
     let cost = proven_cost(prices, prices.len() - graph.plots);
     let pairing = first_pairing(alloc, graph, prices, mates, search, gone)?;
     Ok(Solved {
-        pairing: Sequence::of(pairing),
-        u: Sequence::of(u),
-        v: Sequence::of(v),
+        pairing: ShortList::of(pairing),
+        u: ShortList::of(u),
+        v: ShortList::of(v),
         cost,
     })
 }

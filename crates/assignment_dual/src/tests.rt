@@ -5,9 +5,10 @@ ghost use Rattle.assignment_dual.specs.Problems.{EdgeBefore, edge_at};
 use crate::*;
 use rand_core::utils::NextWord;
 use rand_pcg::Pcg32;
+use short_list::ShortList;
 use std::alloc::Global;
 use std::test::Fail;
-use trk_base::{NoMemory, Sequence, TryCopy};
+use trk_base::{NoMemory, TryCopy};
 
 // A problem without edges.
 fn bare(alloc: Global, plots: u32, tracks: u32) -> Costs
@@ -18,7 +19,7 @@ fn bare(alloc: Global, plots: u32, tracks: u32) -> Costs
     Costs {
         plots,
         tracks,
-        edges: Sequence::new(alloc),
+        edges: ShortList::new(alloc),
     }
 }
 
@@ -34,12 +35,12 @@ fn is_after(edges: &[(u32, u32, u16)], edge: (u32, u32, u16)) -> bool
 }
 
 // The problem with one more edge after the others, if that is its place.
-fn with_edge(mut costs: Costs, edge: (u32, u32, u16)) -> Result<Costs, NoMemory> {
+fn with_edge(alloc: Global, mut costs: Costs, edge: (u32, u32, u16)) -> Result<Costs, NoMemory> {
     if edge.0 >= costs.plots || edge.1 >= costs.tracks || edge.2 > 4096 {
         return Ok(costs);
     }
     if is_after(costs.edges.as_slice(), edge) {
-        costs.edges.push(edge)?;
+        costs.edges.push(alloc, edge)?;
     }
     Ok(costs)
 }
@@ -53,7 +54,7 @@ fn problem(
 ) -> Result<Costs, NoMemory> {
     let mut costs = bare(alloc, plots, tracks);
     for edge in edges {
-        costs = with_edge(costs, *edge)?;
+        costs = with_edge(alloc, costs, *edge)?;
     }
     Ok(costs)
 }
@@ -90,7 +91,7 @@ fn takes_the_first_of_equal_pairings(rt: HostRuntime) -> Result<(), Fail> {
 }
 
 // The prices of a plot and of its tracks, where there is one.
-fn prices(alloc: Global, costs: &Costs) -> Result<(Sequence<i64>, Sequence<i64>), NoMemory> {
+fn prices(alloc: Global, costs: &Costs) -> Result<(ShortList<i64>, ShortList<i64>), NoMemory> {
     let Solved { u, v, .. } = solve(alloc, costs)?;
     Ok((u, v))
 }
@@ -120,7 +121,9 @@ fn small(alloc: Global, draw: &mut Pcg32, round: u32) -> Result<(Costs, Vec<Opti
             if word % 4 == 0 {
                 gates.push(None)?;
             } else {
-                costs = with_edge(costs, (plot, track, cost as u16)).map_err(|_| "no memory")?;
+                costs = with_edge(alloc, costs, (plot, track, cost as u16)).map_err(
+                    |_| "no memory",
+                )?;
                 gates.push(Some(cost as u16))?;
             }
         }

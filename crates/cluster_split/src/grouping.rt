@@ -4,8 +4,9 @@ ghost use Rattle.std.specs.List.Sorted.{IsNonDecreasingBy};
 ghost use Rattle.cluster_split.specs.Grouping.{AreLabelled, AreIndices, AreGrouped, components_of, no_component, with_plot, with_track};
 
 use crate::Component;
+use short_list::ShortList;
 use std::alloc::Global;
-use trk_base::{NoMemory, Sequence};
+use trk_base::NoMemory;
 
 // A new component at the end, and its place.
 fn add_component(alloc: Global, parts: &mut Vec<Component>) -> Result<u32, NoMemory>
@@ -15,26 +16,36 @@ fn add_component(alloc: Global, parts: &mut Vec<Component>) -> Result<u32, NoMem
 {
     let place = parts.len() as u32;
     parts.push(Component {
-        plots: Sequence::new(alloc),
-        tracks: Sequence::new(alloc),
+        plots: ShortList::new(alloc),
+        tracks: ShortList::new(alloc),
     })?;
     Ok(place)
 }
 
 // Puts a plot at the end of the component at `place`.
-fn put_plot(parts: &mut Vec<Component>, place: u32, plot: u32) -> Result<(), NoMemory>
+fn put_plot(
+    alloc: Global,
+    parts: &mut Vec<Component>,
+    place: u32,
+    plot: u32,
+) -> Result<(), NoMemory>
     requires { place < vec_len parts.old }
     ensures { OnOk result (parts.new.items ≡ slice_set parts.old.items place (with_plot plot (slice_index_or parts.old.items place no_component))) }
 {
-    parts[place as usize].plots.push(plot)
+    parts[place as usize].plots.push(alloc, plot)
 }
 
 // Puts a track at the end of the component at `place`.
-fn put_track(parts: &mut Vec<Component>, place: u32, track: u32) -> Result<(), NoMemory>
+fn put_track(
+    alloc: Global,
+    parts: &mut Vec<Component>,
+    place: u32,
+    track: u32,
+) -> Result<(), NoMemory>
     requires { place < vec_len parts.old }
     ensures { OnOk result (parts.new.items ≡ slice_set parts.old.items place (with_track track (slice_index_or parts.old.items place no_component))) }
 {
-    parts[place as usize].tracks.push(track)
+    parts[place as usize].tracks.push(alloc, track)
 }
 
 // The components with their plots alone, and for each plot the place of its component.
@@ -46,7 +57,7 @@ pub(crate) fn components_of_plots(
     requires settled { AreLabelled least.now }
     ensures { IfOk result (λ r. AreGrouped least.now (length least.now) r.0.items r.1.items) }
 {
-    let mut parts: Vec<Component> = Vec::new(alloc);
+    let mut parts: Vec<Component> = Vec::with_capacity(alloc, least.len())?;
     let mut places: Vec<u32> = Vec::with_capacity(alloc, least.len())?;
     for (plot, least) in least.iter().enumerate() {
         let place = if *least as usize == plot {
@@ -55,13 +66,14 @@ pub(crate) fn components_of_plots(
             places[*least as usize]
         };
         places.push(place)?;
-        put_plot(&mut parts, place, plot as u32)?;
+        put_plot(alloc, &mut parts, place, plot as u32)?;
     }
     Ok((parts, places))
 }
 
 // Puts each track into the component of its plots. The edges stand by track.
 pub(crate) fn add_tracks(
+    alloc: Global,
     parts: &mut Vec<Component>,
     places: &[u32],
     by_track: &[(u32, u32)],
@@ -72,7 +84,7 @@ pub(crate) fn add_tracks(
 {
     for (i, edge) in by_track.iter().enumerate() {
         if i == 0 || by_track[i - 1].1 != edge.1 {
-            put_track(parts, places[edge.0 as usize], edge.1)?;
+            put_track(alloc, parts, places[edge.0 as usize], edge.1)?;
         }
     }
     Ok(())

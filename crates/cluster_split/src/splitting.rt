@@ -7,16 +7,17 @@ ghost use Rattle.cluster_split.specs.declared.splitting.Component.{Component};
 
 use crate::grouping::{add_tracks, components_of_plots};
 use crate::leasts::least_plots;
+use short_list::ShortList;
 use std::alloc::Global;
-use trk_base::{NoMemory, Sequence};
+use trk_base::NoMemory;
 
 /// A connected part of a batch's gate graph: plots that walks of edges join, and their tracks.
 #[derive(Debug, Drop, PartialEq, Eq)]
 pub struct Component {
     /// The plots, by their places in the batch, rising.
-    pub plots: Sequence<u32>,
+    pub plots: ShortList<u32>,
     /// The tracks that these plots have edges to, rising.
-    pub tracks: Sequence<u32>,
+    pub tracks: ShortList<u32>,
 }
 
 /// The connected parts that hold a plot, in the order of their least plot.
@@ -35,7 +36,7 @@ pub fn components(
     let by_track = by_track(alloc, edges)?;
     let least = least_plots(alloc, plots, &by_track)?;
     let (mut parts, places) = components_of_plots(alloc, &least)?;
-    add_tracks(&mut parts, &places, &by_track)?;
+    add_tracks(alloc, &mut parts, &places, &by_track)?;
     Ok(parts)
 }
 

@@ -9,8 +9,9 @@ use crate::problems::{EdgeCosts, next_problem};
 use assignment_dual::{Solved, solve};
 use price_form::Cert;
 use rand_pcg::Pcg32;
+use short_list::ShortList;
 use std::alloc::Global;
-use trk_base::{NoMemory, Sequence};
+use trk_base::NoMemory;
 
 // How many plots a certificate has, and how many tracks.
 const SIZE: u32 = 3;
@@ -33,11 +34,13 @@ pub fn next_cert(alloc: Global, number: u32, generator: &mut Pcg32) -> Result<Ce
     } = solve(alloc, &costs)?;
     let slot = u64::from(number);
     let first = 3 * slot;
+    let plots = vec![in alloc; first, first + 1, first + 2]?;
+    let tracks = vec![in alloc; 0, 1, 2]?;
     Ok(Cert {
         slot,
         radar: 0,
-        plots: Sequence::of(vec![in alloc; first, first + 1, first + 2]?),
-        tracks: Sequence::of(vec![in alloc; 0, 1, 2]?),
+        plots: ShortList::of(plots),
+        tracks: ShortList::of(tracks),
         costs,
         pairing,
         u,

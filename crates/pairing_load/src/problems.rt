@@ -5,8 +5,9 @@ ghost use Rattle.pairing_load.specs.Problems.{after, full_problem, generator_of,
 use assignment_dual::Costs;
 use rand_core::utils::NextWord;
 use rand_pcg::Pcg32;
+use short_list::ShortList;
 use std::alloc::Global;
-use trk_base::{NoMemory, Sequence};
+use trk_base::NoMemory;
 
 /// The most plots that a problem has.
 pub const SIZE_LIMIT: u32 = 1_000;
@@ -65,6 +66,6 @@ pub fn next_problem(
     Ok(Costs {
         plots: size,
         tracks: size,
-        edges: Sequence::of(edges),
+        edges: ShortList::of(edges),
     })
 }

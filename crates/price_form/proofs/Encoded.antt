@@ -11,14 +11,15 @@ use Rattle.price_form.specs.declared.certs.Cert.{Cert}
 use Rattle.assignment_dual.specs.Problems.{Edge}
 use Rattle.price_form.specs.Encoding.{head_octets, gate_octets, proof_octets, cert_octets}
 
-pub whole_cert : (c : Cert) {none first second third : List ℕ} {slot radar n k : ℕ} {ps ts : List ℕ} {es : List Edge} {xs : List (Option ℕ)} {us vs : List ℤ} → none ≡ [] → first ≡ none ++ head_octets slot radar n k → second ≡ first ++ gate_octets ps ts es → third ≡ second ++ proof_octets xs us vs
-    → slot ≡ c.slot → radar ≡ c.radar → n ≡ c.costs.plots → k ≡ c.costs.tracks → ps ≡ c.plots → ts ≡ c.tracks → es ≡ c.costs.edges → xs ≡ c.pairing → us ≡ c.u → vs ≡ c.v → third ≡ cert_octets c
+pub whole_cert : (c : Cert) (before : List ℕ) {first second third : List ℕ} {slot radar n k : ℕ} {ps ts : List ℕ} {es : List Edge} {xs : List (Option ℕ)} {us vs : List ℤ} → first ≡ before ++ head_octets slot radar n k → second ≡ first ++ gate_octets ps ts es → third ≡ second ++ proof_octets xs us vs
+    → slot ≡ c.slot → radar ≡ c.radar → n ≡ c.costs.plots → k ≡ c.costs.tracks → ps ≡ c.plots → ts ≡ c.tracks → es ≡ c.costs.edges → xs ≡ c.pairing → us ≡ c.u → vs ≡ c.v → third ≡ before ++ cert_octets c
 unfolding cert_octets
-whole_cert c {none} {first} {second} {third} {slot} {radar} {n} {k} {ps} {ts} {es} {xs} {us} {vs} e f g h a b d i j l m o p q =
+whole_cert c before {first} {second} {third} {slot} {radar} {n} {k} {ps} {ts} {es} {xs} {us} {vs} f g h a b d i j l m o p q =
     h
-    ∙ (λ t. (g ∙ ap (λ zs. zs ++ gate_octets ps ts es) (f ∙ ap (λ zs. zs ++ head_octets slot radar n k) e)) t ++ proof_octets xs us vs)
-    ∙ (λ t. head_octets (a t) (b t) (d t) (i t) ++ gate_octets (j t) (l t) (m t) ++ proof_octets (o t) (p t) (q t))
-    ∙ append_assoc (head_octets c.slot c.radar c.costs.plots c.costs.tracks) (gate_octets c.plots c.tracks c.costs.edges) (proof_octets c.pairing c.u c.v)
+    ∙ (λ t. (g ∙ ap (λ zs. zs ++ gate_octets ps ts es) f) t ++ proof_octets xs us vs)
+    ∙ (λ t. ((before ++ head_octets (a t) (b t) (d t) (i t)) ++ gate_octets (j t) (l t) (m t)) ++ proof_octets (o t) (p t) (q t))
+    ∙ append_assoc (before ++ head_octets c.slot c.radar c.costs.plots c.costs.tracks) (gate_octets c.plots c.tracks c.costs.edges) (proof_octets c.pairing c.u c.v)
+    ∙ append_assoc before (head_octets c.slot c.radar c.costs.plots c.costs.tracks) (gate_octets c.plots c.tracks c.costs.edges ++ proof_octets c.pairing c.u c.v)
 
 -- one price more
 pub price_more : (before : List ℕ) (prices : List ℤ) (i : ℕ) {now after : List ℕ} → i < length prices → FitsSigned w64 (get_or prices i (pos 0)) → now ≡ before ++ flat_map price_octets (take i prices)

@@ -1,7 +1,8 @@
 // Certificates and the other records of a price file, and why one cannot be read.
 use assignment_dual::Costs;
+use short_list::ShortList;
 use std::alloc::{AllocFailed, Global};
-use trk_base::{NoMemory, Sequence, TryCopy};
+use trk_base::{NoMemory, TryCopy};
 
 /// A component of a batch's gate graph, its pairing, and prices that are to prove it.
 #[derive(Debug, Drop, PartialEq, Eq)]
@@ -11,17 +12,17 @@ pub struct Cert {
     /// The batch's radar, by its place in the settings.
     pub radar: u8,
     /// The arrival of each plot, in the order of the plots' keys.
-    pub plots: Sequence<u64>,
+    pub plots: ShortList<u64>,
     /// The arrival of each track's first plot, in the order of the tracks' births.
-    pub tracks: Sequence<u64>,
+    pub tracks: ShortList<u64>,
     /// The gates and their costs.
     pub costs: Costs,
     /// For each plot the place of its track, or none.
-    pub pairing: Sequence<Option<u32>>,
+    pub pairing: ShortList<Option<u32>>,
     /// The price of each plot.
-    pub u: Sequence<i64>,
+    pub u: ShortList<i64>,
     /// The price of each track.
-    pub v: Sequence<i64>,
+    pub v: ShortList<i64>,
 }
 
 impl TryCopy for Cert {

@@ -3,7 +3,7 @@ ghost use Rattle.std.specs.Prelude.{◌≡◌, ◌≤◌, ◌<◌, ◌+◌, ◌*
 ghost use Rattle.price_form.specs.Octets.{many_at, price_number_at, edge_numbers_at, entry_number_at};
 
 use crate::numbers::{edge_at, entry_at, price_at};
-use trk_base::Sequence;
+use short_list::ShortList;
 
 /// A list that is read by index, wherever it stands.
 pub(crate) trait Column<T> {
@@ -20,15 +20,15 @@ pub(crate) trait Column<T> {
         ensures { (d : T) → result ≡ get_or (list self.now) index d };
 }
 
-impl<T: Copy> Column<T> for Sequence<T> {
+impl<T: Copy> Column<T> for ShortList<T> {
     ghost list = { λ s. s };
 
     fn len(&self) -> usize {
-        Sequence::len(self)
+        ShortList::len(self)
     }
 
     fn at(&self, index: usize) -> T {
-        self.as_slice()[index]
+        *ShortList::at(self, index)
     }
 }
 

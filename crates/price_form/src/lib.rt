@@ -27,4 +27,6 @@ pub use certs::{Cert, PriceRecord, PricesError};
 pub use checking::{check, check_at};
 pub use prefixes::{one_prefix_fault, prefix_fault, prefix_fault_stays};
 pub use reading::{certificate_offsets, one_price_file, read_prices};
-pub use writing::{start_prices, write_cert, write_edition, written_prices};
+pub use writing::{
+    USUAL_RECORD, put_cert, start_prices, write_cert, write_edition, written_prices,
+};

@@ -11,8 +11,9 @@ use crate::columns::{Column, Edges, Entries};
 use crate::numbers::{edges_at, entries_at, half_at, prices_at, word_at, words_at};
 use crate::{Cert, PriceRecord, PricesError};
 use assignment_dual::Costs;
+use short_list::ShortList;
 use std::alloc::Global;
-use trk_base::{GATE_COST, NoMemory, Sequence};
+use trk_base::{GATE_COST, NoMemory};
 
 /// What a price file begins with: `MRP1`.
 pub(crate) const MAGIC: [u8; 4] = [0x4D, 0x52, 0x50, 0x31];
@@ -179,19 +180,25 @@ fn cert_at(alloc: Global, octets: &[u8], at: usize, counts: Counts) -> Result<Ce
     );
     let edges_from = at + 22 + n * 8 + k * 8;
     let prices_from = edges_from + m * 10 + n * 4;
+    let plots = words_at(alloc, octets, at + 18, n)?;
+    let tracks = words_at(alloc, octets, at + 18 + n * 8, k)?;
+    let edges = edges_at(alloc, octets, edges_from, m)?;
+    let pairing = entries_at(alloc, octets, edges_from + m * 10, n)?;
+    let u = prices_at(alloc, octets, prices_from, n)?;
+    let v = prices_at(alloc, octets, prices_from + n * 8, k)?;
     Ok(Cert {
         slot: word_at(octets, at + 1),
         radar: octets[at + 9],
-        plots: Sequence::of(words_at(alloc, octets, at + 18, n)?),
-        tracks: Sequence::of(words_at(alloc, octets, at + 18 + n * 8, k)?),
+        plots: ShortList::of(plots),
+        tracks: ShortList::of(tracks),
         costs: Costs {
             plots: counts.plots,
             tracks: counts.tracks,
-            edges: Sequence::of(edges_at(alloc, octets, edges_from, m)?),
+            edges: ShortList::of(edges),
         },
-        pairing: Sequence::of(entries_at(alloc, octets, edges_from + m * 10, n)?),
-        u: Sequence::of(prices_at(alloc, octets, prices_from, n)?),
-        v: Sequence::of(prices_at(alloc, octets, prices_from + n * 8, k)?),
+        pairing: ShortList::of(pairing),
+        u: ShortList::of(u),
+        v: ShortList::of(v),
     })
 }
 

@@ -2,8 +2,8 @@
 ghost use Rattle.price_form.specs.Files.{IsRecord};
 
 use crate::{
-    PriceRecord, PricesError, certificate_offsets, check, check_at, prefix_fault, read_prices,
-    start_prices, write_cert, write_edition,
+    PriceRecord, PricesError, certificate_offsets, check, check_at, prefix_fault, put_cert,
+    read_prices, start_prices, write_cert, write_edition,
 };
 use std::alloc::Global;
 use trk_base::TryCopy;
@@ -68,7 +68,7 @@ fn judged(alloc: Global, file: &[u8]) -> Option<bool> {
     (in_place == all).then_some(all)
 }
 
-// A record in octets; a certificate is copied first.
+// A record in octets; a certificate is copied first, and put at the end of none.
 fn record_octets(alloc: Global, written: &PriceRecord) -> Option<Vec<u8>>
     requires { IsRecord written.now }
 {
@@ -76,7 +76,9 @@ fn record_octets(alloc: Global, written: &PriceRecord) -> Option<Vec<u8>>
         PriceRecord::Edition { number, cut } => write_edition(alloc, *number, *cut).ok(),
         PriceRecord::Cert { cert, .. } => {
             let copy = cert.copy(alloc).ok()?;
-            write_cert(alloc, &copy).ok()
+            let mut octets = Vec::new(alloc);
+            put_cert(&mut octets, &copy).ok()?;
+            (octets == write_cert(alloc, cert).ok()?).then_some(octets)
         }
     }
 }

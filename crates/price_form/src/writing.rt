@@ -14,9 +14,9 @@ use crate::reading::MAGIC;
 use std::alloc::Global;
 use trk_base::NoMemory;
 
-// How many octets a certificate of one plot and a few tracks has, as nearly all are: so there is room
-// at once.
-const USUAL: usize = 128;
+/// How many octets the record of a certificate has that has one plot, one track and the gate between
+/// them, as nearly all do.
+pub const USUAL_RECORD: usize = 68;
 
 fn put_word(out: &mut Vec<u8>, number: u64) -> Result<(), NoMemory>
     ensures { OnOk result (out.new.items ≡ out.old.items ++ to_be_bytes w64 number) }
@@ -97,31 +97,40 @@ pub fn write_edition(alloc: Global, number: u64, cut: u64) -> Result<Vec<u8>, No
     Ok(out)
 }
 
-/// A certificate's record of a price file.
-pub fn write_cert(alloc: Global, cert: &Cert) -> Result<Vec<u8>, NoMemory>
+/// Puts a certificate's record of a price file at the end.
+pub fn put_cert(out: &mut Vec<u8>, cert: &Cert) -> Result<(), NoMemory>
     requires { IsCert cert.now }
-    ensures { IfOk result (λ v. v.items ≡ cert_octets cert.now) }
+    ensures { OnOk result (out.new.items ≡ out.old.items ++ cert_octets cert.now) }
 {
-    let mut out = Vec::with_capacity(alloc, USUAL)?;
     put_head(
-        &mut out,
+        out,
         cert.slot,
         cert.radar,
         cert.costs.plots,
         cert.costs.tracks,
     )?;
     put_gates(
-        &mut out,
+        out,
         cert.plots.as_slice(),
         cert.tracks.as_slice(),
         cert.costs.edges.as_slice(),
     )?;
     put_proof(
-        &mut out,
+        out,
         cert.pairing.as_slice(),
         cert.u.as_slice(),
         cert.v.as_slice(),
     )?;
+    Ok(())
+}
+
+/// A certificate's record of a price file.
+pub fn write_cert(alloc: Global, cert: &Cert) -> Result<Vec<u8>, NoMemory>
+    requires { IsCert cert.now }
+    ensures { IfOk result (λ v. v.items ≡ cert_octets cert.now) }
+{
+    let mut out = Vec::with_capacity(alloc, USUAL_RECORD)?;
+    put_cert(&mut out, cert)?;
     Ok(out)
 }
 

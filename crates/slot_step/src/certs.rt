@@ -9,9 +9,10 @@ use assignment_dual::{Costs, Solved};
 use cluster_split::Component;
 use plot_geometry::PlanePlot;
 use price_form::Cert;
+use short_list::ShortList;
 use std::alloc::Global;
 use track_life::Track;
-use trk_base::{Key, NoMemory, Sequence, TryCopy};
+use trk_base::{Key, NoMemory, TryCopy};
 
 /// A certificate with the key of its component's least plot. Certificates are in the order of these
 /// keys, which is that of slot, radar and least plot; of a plot the certificate itself tells the
@@ -34,27 +35,35 @@ impl TryCopy for KeyedCert {
 }
 
 // The arrivals of the plots at these indices.
-fn plot_arrivals(alloc: Global, indices: &[u32], plots: &[PlanePlot]) -> Result<Vec<u64>, NoMemory>
+fn plot_arrivals(
+    alloc: Global,
+    indices: &[u32],
+    plots: &[PlanePlot],
+) -> Result<ShortList<u64>, NoMemory>
     requires { All (λ i. i < length plots.now) indices.now }
-    ensures { (own : List Plot) → AreAt plots.now indices.now own → IfOk result (λ v. v.items ≡ map (λ p. p.key.arrival) own) }
+    ensures { (own : List Plot) → AreAt plots.now indices.now own → IfOk result (λ v. v ≡ map (λ p. p.key.arrival) own) }
 {
-    let mut arrivals = Vec::with_capacity(alloc, indices.len())?;
+    let mut arrivals = ShortList::new(alloc);
     for index in indices {
         let plot = &plots[*index as usize];
-        arrivals.push(plot.key.arrival)?;
+        arrivals.push(alloc, plot.key.arrival)?;
     }
     Ok(arrivals)
 }
 
 // The arrivals of the first plots of the tracks at these indices.
-fn birth_arrivals(alloc: Global, indices: &[u32], tracks: &[Track]) -> Result<Vec<u64>, NoMemory>
+fn birth_arrivals(
+    alloc: Global,
+    indices: &[u32],
+    tracks: &[Track],
+) -> Result<ShortList<u64>, NoMemory>
     requires { All (λ i. i < length tracks.now) indices.now }
-    ensures { (births : List Birth) → AreAt (map (λ t. t.birth) tracks.now) indices.now births → IfOk result (λ v. v.items ≡ map (λ b. b.arrival) births) }
+    ensures { (births : List Birth) → AreAt (map (λ t. t.birth) tracks.now) indices.now births → IfOk result (λ v. v ≡ map (λ b. b.arrival) births) }
 {
-    let mut arrivals = Vec::with_capacity(alloc, indices.len())?;
+    let mut arrivals = ShortList::new(alloc);
     for index in indices {
         let track = &tracks[*index as usize];
-        arrivals.push(track.birth.arrival)?;
+        arrivals.push(alloc, track.birth.arrival)?;
     }
     Ok(arrivals)
 }
@@ -81,13 +90,15 @@ pub(crate) fn cert_of(
         v,
         cost: _,
     } = solved;
+    let arrivals = plot_arrivals(alloc, component.plots.as_slice(), plots)?;
+    let births = birth_arrivals(alloc, component.tracks.as_slice(), tracks)?;
     Ok(KeyedCert {
         least,
         cert: Cert {
             slot: least.slot,
             radar: least.radar,
-            plots: Sequence::of(plot_arrivals(alloc, component.plots.as_slice(), plots)?),
-            tracks: Sequence::of(birth_arrivals(alloc, component.tracks.as_slice(), tracks)?),
+            plots: arrivals,
+            tracks: births,
             costs,
             pairing,
             u,

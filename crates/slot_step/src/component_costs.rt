@@ -9,8 +9,9 @@ ghost use Rattle.slot_step.specs.ComponentEdges.{edges_at, own_edge, component_e
 
 use assignment_dual::Costs;
 use cluster_split::Component;
+use short_list::ShortList;
 use std::alloc::Global;
-use trk_base::{NoMemory, Sequence};
+use trk_base::NoMemory;
 
 // The gates of one plot of the batch, which stand together.
 fn gates_at(edges: &[(u32, u32, u16)], plot: u32) -> &[(u32, u32, u16)]
@@ -26,18 +27,19 @@ fn gates_at(edges: &[(u32, u32, u16)], plot: u32) -> &[(u32, u32, u16)]
 // Puts gates at the end, as those of the component's plot at this index: a track is named by its
 // index among the component's tracks, which rise.
 fn add_component_gates(
-    own: &mut Vec<(u32, u32, u16)>,
+    alloc: Global,
+    own: &mut ShortList<(u32, u32, u16)>,
     index: u32,
     gates: &[(u32, u32, u16)],
     tracks: &[u32],
 ) -> Result<(), NoMemory>
     requires few { length tracks.now < 2 ^ 32 }
     requires rising { IsStrictlyIncreasing tracks.now }
-    ensures { OnOk result (own.new.items ≡ own.old.items ++ map (own_edge tracks.now index) gates.now) }
+    ensures { OnOk result (own.new ≡ own.old ++ map (own_edge tracks.now index) gates.now) }
 {
     for gate in gates {
         let track = tracks.partition_point(|track| *track < gate.1);
-        own.push((index, track as u32, gate.2))?;
+        own.push(alloc, (index, track as u32, gate.2))?;
     }
     Ok(())
 }
@@ -47,16 +49,17 @@ fn component_gates(
     alloc: Global,
     component: &Component,
     edges: &[(u32, u32, u16)],
-) -> Result<Vec<(u32, u32, u16)>, NoMemory>
+) -> Result<ShortList<(u32, u32, u16)>, NoMemory>
     requires rising { Rises edges.now }
     requires plots { length component.now.plots < 2 ^ 32 }
     requires tracks { length component.now.tracks < 2 ^ 32 }
     requires tracks_rise { IsStrictlyIncreasing component.now.tracks }
-    ensures { IfOk result (λ gates. gates.items ≡ component_edges edges.now component.now.tracks 0 component.now.plots) }
+    ensures { IfOk result (λ gates. gates ≡ component_edges edges.now component.now.tracks 0 component.now.plots) }
 {
-    let mut gates = Vec::new(alloc);
+    let mut gates = ShortList::new(alloc);
     for (index, plot) in component.plots.as_slice().iter().enumerate() {
         add_component_gates(
+            alloc,
             &mut gates,
             index as u32,
             gates_at(edges, *plot),
@@ -85,6 +88,6 @@ pub(crate) fn component_costs(
     Ok(Costs {
         plots: component.plots.len() as u32,
         tracks: component.tracks.len() as u32,
-        edges: Sequence::of(gates),
+        edges: gates,
     })
 }

@@ -12,9 +12,10 @@ use assignment_dual::Costs;
 use fixed_imm::MixedAim;
 use gating::{gate_mixed, is_another};
 use plot_geometry::PlanePlot;
+use short_list::ShortList;
 use std::alloc::Global;
 use track_life::Track;
-use trk_base::{NoMemory, Sequence};
+use trk_base::NoMemory;
 
 // How many places the marks of addresses have. Addresses with one remainder share a place.
 const PLACES: u32 = 4_096;
@@ -58,7 +59,7 @@ fn candidates(
     ensures { IfOk result (λ found. found.items ≡ map mixed_candidate (candidates plots.now tracks.now)) }
 {
     let marks = address_marks(alloc, plots)?;
-    let mut found = Vec::new(alloc);
+    let mut found = Vec::with_capacity(alloc, plots.len())?;
     for (index, track) in tracks.iter().enumerate() {
         if may_gate(track, plots, &marks) {
             found.push((index as u32, track.aim.mixed()))?;
@@ -97,7 +98,7 @@ fn edges_of(
     ensures { IfOk result (λ edges. edges.items ≡ batch_edges track_gate tracks.now 0 plots.now) }
 {
     let candidates = candidates(alloc, tracks, plots)?;
-    let mut edges = Vec::new(alloc);
+    let mut edges = Vec::with_capacity(alloc, plots.len())?;
     for (index, plot) in plots.iter().enumerate() {
         add_gates(&mut edges, index as u32, plot, &candidates)?;
     }
@@ -120,6 +121,6 @@ pub(crate) fn batch_costs(
     Ok(Costs {
         plots: plots.len() as u32,
         tracks: tracks.len() as u32,
-        edges: Sequence::of(edges),
+        edges: ShortList::of(edges),
     })
 }

@@ -50,6 +50,15 @@ pub fn slot_run(
     run_batches(alloc, table, slot, batches, life)
 }
 
+// How many plots there are, if that can be counted. There are no more certificates.
+fn plot_count(batches: &[Batch]) -> usize {
+    let mut count: usize = 0;
+    for batch in batches {
+        count = count.saturating_add(batch.plots.len());
+    }
+    count
+}
+
 // The run without its ticket.
 fn run_batches(
     alloc: Global,
@@ -66,7 +75,7 @@ fn run_batches(
     ensures before { IfOk result (λ ran. AreFromBefore (slot + 1) ran.table) }
 {
     let mut tracks = expire(alloc, table, slot, life)?.into_tracks();
-    let mut certs = Vec::new(alloc);
+    let mut certs = Vec::with_capacity(alloc, plot_count(batches))?;
     for batch in batches {
         step_batch(alloc, &mut tracks, batch.plots.as_slice(), life, &mut certs)?;
     }

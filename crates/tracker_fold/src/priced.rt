@@ -3,7 +3,7 @@ ghost use Rattle.std.specs.Prelude.{◌≡◌, All, IfOk};
 ghost use Rattle.price_form.specs.Certificates.{IsCert};
 ghost use Rattle.tracker_fold.specs.Priced.{told_octets};
 
-use price_form::write_cert;
+use price_form::{USUAL_RECORD, put_cert};
 use slot_step::KeyedCert;
 use std::alloc::Global;
 use std::marker::Model;
@@ -68,9 +68,9 @@ fn octets_of(alloc: Global, certs: &[KeyedCert]) -> Result<Vec<u8>, NoMemory>
     requires { All (λ k. IsCert k.cert) certs.now }
     ensures { IfOk result (λ v. v.items ≡ told_octets certs.now) }
 {
-    let mut octets = Vec::new(alloc);
+    let mut octets = Vec::with_capacity(alloc, certs.len().saturating_mul(USUAL_RECORD))?;
     for keyed in certs {
-        octets.extend_from_slice(&write_cert(alloc, &keyed.cert)?)?;
+        put_cert(&mut octets, &keyed.cert)?;
     }
     Ok(octets)
 }

@@ -8,6 +8,6 @@ returns c =
     let p : IsProblem c.args.costs.now = subst IsProblem c.costs.view_is c.costs.invariant in
     let x = c.nearest-entry.result.0 in
     let least = c.nearest-entry.result.1 in
-    let u : c.of-2.result ≡ pos least ∷ [] = search rules in
-    let v : c.of-3.result ≡ replicate c.args.costs.now.tracks (pos 0) = c.of-3.ensures ∙ c.in_ok-v.ensures.items_if_clones_equal (λ y e. e) ∙ ap (λ (o : Problem). replicate o.tracks (pos 0)) c.costs.view_is in
-    single_solved c.args.costs.now p c.requires x least c.nearest-entry.ensures c.of.result c.of-2.result c.of-3.result _ (c.of.ensures ∙ c.in_ok-pairing.ensures.items) u v (search rules)
+    let u : c.one-2.result ≡ pos least ∷ [] = search rules in
+    let v : c.in_ok-v.v ≡ replicate c.args.costs.now.tracks (pos 0) = c.in_ok-v.ensures ∙ ap (λ (o : Problem). replicate o.tracks (pos 0)) c.costs.view_is in
+    single_solved c.args.costs.now p c.requires x least c.nearest-entry.ensures c.one.result c.one-2.result c.in_ok-v.v _ c.one.ensures u v (search rules)

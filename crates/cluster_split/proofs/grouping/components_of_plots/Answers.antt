@@ -5,7 +5,7 @@ use Rattle.cluster_split.proofs.grouping.components_of_plots.Goals as goal
 use Rattle.cluster_split.proofs.grouping.components_of_plots.Goals.{then-least-plot+in_ok-place, else-least-plot}
 
 pub loop-plot-init : goal.loop-plot-init
-loop-plot-init c = none_grouped c.args.least.now _ _ c.new-parts.ensures.items c.in_ok-places.ensures.items
+loop-plot-init c = none_grouped c.args.least.now _ _ c.in_ok-parts.ensures.items c.in_ok-places.ensures.items
 
 pub add_component-requires : goal.add_component-requires
 add_component-requires c = omega (arith, few_parts c.args.least.now c.loop-plot.plot c.loop-plot.parts.items c.loop-plot.invariant.parts_so_far, c.loop-plot.parts.ok.0, c.requires.few, c.loop-plot-test.true)

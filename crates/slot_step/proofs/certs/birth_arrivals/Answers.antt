@@ -16,8 +16,8 @@ loop-index-preserved c = λ births z.
     let i : ℕ = get_or c.args.indices.now k 0 in
     let inside : i < length c.args.tracks.now = c.requires k 0 c.loop-index-test.true in
     let is : t.birth ≡ get_or births k t.birth = ap (λ (u : TrackState). u.birth) c.index-tracks-index.is ∙ sym (get_or-map (λ (u : TrackState). u.birth) c.args.tracks.now i t t.birth inside) ∙ at_own all c.args.indices.now births z k c.loop-index-test.true t.birth in
-    c.in_ok-push.ensures.items ∙ ap (λ (b : Key). c.loop-index.arrivals.items ++ b.arrival ∷ []) (ap (λ (u : TrackState). u.birth) c.track.view_is ∙ is)
-    ∙ map_more (λ (b : Key). b.arrival) births k t.birth c.loop-index.arrivals.items [] (omega (arith, c.loop-index-test.true, zip_length (IsAt all) c.args.indices.now births z)) (c.loop-index.invariant births z)
+    c.in_ok-push.ensures.ok ∙ ap (λ (b : Key). c.loop-index.arrivals ++ b.arrival ∷ []) (ap (λ (u : TrackState). u.birth) c.track.view_is ∙ is)
+    ∙ map_more (λ (b : Key). b.arrival) births k t.birth c.loop-index.arrivals [] (omega (arith, c.loop-index-test.true, zip_length (IsAt all) c.args.indices.now births z)) (c.loop-index.invariant births z)
 
 pub returns : goal.returns
 returns c = λ births z.

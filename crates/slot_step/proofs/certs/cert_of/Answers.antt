@@ -21,7 +21,7 @@ returns c =
     let d = c.index-plots-as_slice.result in
     let least : c.first.inside.key ≡ first.0.key =
     ap (λ (p : PlanePlot). p.key) (c.first.view_is ∙ c.index-plots-as_slice.is ∙ ap (λ (is : List ℕ). get_or ps (get_or is 0 0) d) c.as_slice.ensures ∙ at_own ps part.plots own.0 own.1 0 c.requires.some d ∙ ap (λ (qs : List PlanePlot). get_or qs 0 d) first.2) in
-    told_of c.args.tracks.now ps part c.args.costs c.args.solved.pairing c.args.solved.u c.args.solved.v first.0 first.1 births.0 c.first.inside.key c.of.result c.of-2.result
+    told_of c.args.tracks.now ps part c.args.costs c.args.solved.pairing c.args.solved.u c.args.solved.v first.0 first.1 births.0 c.first.inside.key _ _
     (subst (AreAt ps part.plots) first.2 own.1) births.1 least
-    (c.of.ensures ∙ c.in_ok-plot_arrivals.ensures own.0 (subst (λ (is : List ℕ). AreAt ps is own.0) (sym c.as_slice-2.ensures) own.1) ∙ ap (map (λ (p : PlanePlot). p.key.arrival)) first.2)
-    (c.of-2.ensures ∙ c.in_ok-birth_arrivals.ensures births.0 (subst (λ (is : List ℕ). AreAt all is births.0) (sym c.as_slice-3.ensures) births.1))
+    (c.in_ok-arrivals.ensures own.0 (subst (λ (is : List ℕ). AreAt ps is own.0) (sym c.as_slice-2.ensures) own.1) ∙ ap (map (λ (p : PlanePlot). p.key.arrival)) first.2)
+    (c.in_ok-births.ensures births.0 (subst (λ (is : List ℕ). AreAt all is births.0) (sym c.as_slice-3.ensures) births.1))

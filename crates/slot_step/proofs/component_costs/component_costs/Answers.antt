@@ -17,12 +17,12 @@ overflow_cast-result c = omega (arith, c.len-2.ensures, c.requires.plots, few_pl
 pub overflow_cast-result-2 : goal.overflow_cast-result-2
 overflow_cast-result-2 c = omega (arith, c.len-3.ensures, c.requires.tracks, few_tracks c.args.whole.now (subst IsProblem c.whole.view_is c.whole.invariant) c.args.component.now c.requires.component)
 
-edges_are : (c : goal.After-of) → component_edges c.args.whole.now.edges c.args.component.now.tracks 0 c.args.component.now.plots ≡ c.of.result
+edges_are : (c : goal.After-len-3) → component_edges c.args.whole.now.edges c.args.component.now.tracks 0 c.args.component.now.plots ≡ c.in_ok-gates.gates
 edges_are c =
     let part = c.args.component.now in
-    sym (c.of.ensures ∙ c.in_ok-gates.ensures ∙ ap (λ (es : List Edge). component_edges es part.tracks 0 part.plots) (c.as_slice.ensures ∙ ap (λ (p : Problem). p.edges) c.whole.view_is))
+    sym (c.in_ok-gates.ensures ∙ ap (λ (es : List Edge). component_edges es part.tracks 0 part.plots) (c.as_slice.ensures ∙ ap (λ (p : Problem). p.edges) c.whole.view_is))
 
-made : (c : goal.After-of) → own c.args.whole.now (subst IsProblem c.whole.view_is c.whole.invariant) c.args.component.now c.requires.component ≡ record { plots = c.len-2.result; tracks = c.len-3.result; edges = c.of.result }
+made : (c : goal.After-len-3) → own c.args.whole.now (subst IsProblem c.whole.view_is c.whole.invariant) c.args.component.now c.requires.component ≡ record { plots = c.len-2.result; tracks = c.len-3.result; edges = c.in_ok-gates.gates }
 made c = λ i. record { plots = sym c.len-2.ensures i; tracks = sym c.len-3.ensures i; edges = edges_are c i }
 
 pub invariant_of-result : goal.invariant_of-result

@@ -21,7 +21,7 @@ loop-batch-init c =
     let n = c.args.slot in
     let ts = c.args.table.now in
     let is : unexpired (ordered life) n ts ≡ c.into_tracks-tracks.result.items = sym (c.into_tracks-tracks.ensures.value ∙ c.in_ok-expire.ensures ∙ expired life n ts) in
-    subst (λ (y : List TrackState × List KeyedCert). HasRun life n ts c.args.batches.now 0 y.0 y.1) (λ i. (is i, sym c.new-certs.ensures.items i))
+    subst (λ (y : List TrackState × List KeyedCert). HasRun life n ts c.args.batches.now 0 y.0 y.1) (λ i. (is i, sym c.in_ok-certs.ensures.items i))
     (run_none life n ts c.args.batches.now c.requires.batches (subst IsTable (sym is) c.into_tracks-tracks.ensures.table))
 
 pub step_batch-requires-clause-few : goal.step_batch-requires-clause-few
