@@ -131,22 +131,22 @@ module _ {S I K O : Type 0} (F : Separating S I K O) (L : SeparatingLaws F)
       subst (λ (l : List (Part S I)). Joins old (at + 1) jobs l before then) (sym h.0) (subst (Joins old (at + 1) jobs parts before) (sym h.1) (joins_not old jobs parts at a b before now j n h.2))
   joins_step total old jobs parts rest at a b before now then (Some made) j n h = joins_one total old jobs parts rest h.0 h.1 made at before now then j h.2 h.3 h.4
 
--- what is kept from one round of joins to the next, of the parts that were run: they split the whole, and the counter rose by no more than 32 times the slots of the whole but for one time for each part
-pub record AreKept {S I K : Type 0} (slot : I → ℕ) (cmp : I → I → Ordering) (key : I → K) (is_before : S → ℕ → Type 0) (is_beside : S → S → Type 0) (merged : S → S → S) (s : S) (zs : List I) (parts : List (Part S I)) (before now : ℕ) : Type 0 where
+-- what is kept from one round of joins to the next, of the parts that were run: they split the whole, and the counter rose by no more than twice the wish times the slots of the whole but for one time for each part
+pub record AreKept {S I K : Type 0} (wish : ℕ) (slot : I → ℕ) (cmp : I → I → Ordering) (key : I → K) (is_before : S → ℕ → Type 0) (is_beside : S → S → Type 0) (merged : S → S → S) (s : S) (zs : List I) (parts : List (Part S I)) (before now : ℕ) : Type 0 where
   pub splitting : IsSplitting slot is_before is_beside merged s zs parts
   pub numbers : NumbersDiffer parts
   pub rises : before ≤ now
-  pub paid : now + length (slots slot zs) * length parts ≤ before + 32 * length (slots slot zs)
+  pub paid : now + length (slots slot zs) * length parts ≤ before + 2 * wish * length (slots slot zs)
 
-module _ {S I K O : Type 0} (F : Separating S I K O) (s : S) (zs : List I) where
+module _ {S I K O : Type 0} (F : Separating S I K O) (wish : ℕ) (s : S) (zs : List I) where
   abbrev pub Kept : List (Part S I) → ℕ → ℕ → Type 0
-  Kept parts before now = AreKept F.slot F.cmp F.key F.is_before F.is_beside F.merged s zs parts before now
+  Kept parts before now = AreKept wish F.slot F.cmp F.key F.is_before F.is_beside F.merged s zs parts before now
 
-  pub kept_first : (parts : List (Part S I)) (before now : ℕ) → IsSplitting F.slot F.is_before F.is_beside F.merged s zs parts → NumbersDiffer parts → length parts ≤ 16 → now ≡ before + filled_slots F.slot parts → Kept parts before now
+  pub kept_first : (parts : List (Part S I)) (before now : ℕ) → IsSplitting F.slot F.is_before F.is_beside F.merged s zs parts → NumbersDiffer parts → length parts ≤ wish → now ≡ before + filled_slots F.slot parts → Kept parts before now
   kept_first parts before now i d few e =
       let most = length (slots F.slot zs) in
       let filled : filled_slots F.slot parts ≤ length parts * most = few_together F.slot most parts (few_of_each F.slot parts zs i.items) in
-      let m : most * length parts ≤ most * 16 = mul-le-mul_left most few in
+      let m : most * length parts ≤ most * wish = mul-le-mul_left most few in
       record { splitting = i; numbers = d; rises = omega (arith, e); paid = omega (arith, m, e, filled) }
 
   pub kept_parts : (parts : List (Part S I)) (before now : ℕ) → Rises F.cmp F.key zs → Kept parts before now → AreParts F.slot F.key F.is_before F.is_beside parts
@@ -156,7 +156,7 @@ module _ {S I K O : Type 0} (F : Separating S I K O) (s : S) (zs : List I) where
   least_part [] i = absurd i.state
   least_part (p ∷ parts) i = omega arith
 
-  pub kept_bound : (parts : List (Part S I)) (before now : ℕ) → Kept parts before now → now ≤ before + 31 * length (slots F.slot zs)
+  pub kept_bound : (parts : List (Part S I)) (before now : ℕ) → Kept parts before now → now + length (slots F.slot zs) ≤ before + 2 * wish * length (slots F.slot zs)
   kept_bound parts before now k =
       let most = length (slots F.slot zs) in
       let m : most * 1 ≤ most * length parts = mul-le-mul_left most (least_part parts k.splitting) in
@@ -171,5 +171,5 @@ module _ {S I K O : Type 0} (F : Separating S I K O) (s : S) (zs : List I) where
       let more = c.paid s zs up k.splitting in
       record { splitting = c.splitting s zs up k.splitting; numbers = c.numbers k.numbers; rises = omega (arith, one, two); paid = omega (arith, paid, more) }
 
-  pub kept_failed : (parts : List (Part S I)) (before now then : ℕ) → Kept parts before now → then + length (slots F.slot zs) ≤ now + length (slots F.slot zs) * length parts → then ≤ before + 31 * length (slots F.slot zs)
+  pub kept_failed : (parts : List (Part S I)) (before now then : ℕ) → Kept parts before now → then + length (slots F.slot zs) ≤ now + length (slots F.slot zs) * length parts → then + length (slots F.slot zs) ≤ before + 2 * wish * length (slots F.slot zs)
   kept_failed parts before now then k h = let paid = k.paid in omega (arith, paid, h)

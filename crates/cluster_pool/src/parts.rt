@@ -1,7 +1,7 @@
 // A span run in parts.
 ghost use Rattle.std.specs.Prelude.{◌≡◌, ◌<◌, ◌≤◌, ◌+◌, ◌*◌, length, IfOk};
 ghost use Rattle.late_window.specs.Folding.{Rises, BeforeFirst, slots, states, AreOutsOf};
-ghost use Rattle.span_clusters.specs.Interleavings.{EachPair};
+ghost use Rattle.late_window.specs.Interleavings.{EachPair};
 ghost use Rattle.span_clusters.specs.Parts.{DontCross, IsSplitting};
 
 use crate::Pool;
@@ -16,9 +16,9 @@ use trk_base::{NoMemory, Steps};
 /// from one to `wish` parts are run by the pool, and those that cross are joined and run again. With
 /// a wish of 1 all is one part.
 ///
-/// The counter rises by the slots of each part that was run, which together are at most 31 times
-/// those of the whole: up to 16 parts at first, and one for each join of two. That holds whatever
-/// is answered, which is either the run or, where memory is wanting, `NoMemory`.
+/// The counter rises by the slots of each part that was run, which together are at most those of the
+/// whole for each of up to `wish` parts at first, and for each join of two: 31 times with 16 parts.
+/// That holds whatever is answered, which is either the run or, where memory is wanting, `NoMemory`.
 pub fn run_in_parts<F: Separable + Send, P: Pool, L: Ledger>(
     alloc: Global,
     pool: &mut P,
@@ -39,6 +39,7 @@ where
     ensures outs { IfOk result (λ r. AreOutsOf F.next F.slot_of F.is_out state.now items.now r.1.items) }
     ensures rises { steps.old ≤ steps.new }
     ensures bound { steps.new ≤ steps.old + 31 * length (slots F.slot_of items.now) }
+    ensures wished { steps.new + length (slots F.slot_of items.now) ≤ steps.old + 2 * wish * length (slots F.slot_of items.now) }
 {
     if items.is_empty() {
         return Ok((Vec::new(alloc), Vec::new(alloc)));
@@ -68,7 +69,7 @@ where
     ensures splitting { IfOk result (λ done. IsSplitting F.slot_of F.is_before F.is_beside F.merged state.now items.now done.items) }
     ensures clear { IfOk result (λ done. EachPair (DontCross F.next F.slot_of F.gates) done.items) }
     ensures rises { steps.old ≤ steps.new }
-    ensures bound { steps.new ≤ steps.old + 31 * length (slots F.slot_of items.now) }
+    ensures wished { steps.new + length (slots F.slot_of items.now) ≤ steps.old + 2 * wish * length (slots F.slot_of items.now) }
 {
     let jobs = partition::<F, L>(alloc, state, items, wish, steps)?;
     let mut done = pool.run(alloc, jobs)?;

@@ -2,12 +2,12 @@
 ghost use Rattle.std.specs.Prelude.{◌≡◌, ◌↔◌, ◌≤◌, ◌∷◌, ◌++◌, ℕ, List, length, IfOk, OnOk, IsTrue};
 ghost use Rattle.std.specs.Option.{option_to_list};
 ghost use Rattle.std.specs.List.{AllByRecursion};
-ghost use Rattle.late_window.specs.Folding.{Rises, group_count, slots, states, AreOutsOf};
-ghost use Rattle.span_clusters.specs.Interleavings.{EachPair, IsJoin};
+ghost use Rattle.late_window.specs.Folding.{Rises, slots, states, AreOutsOf};
+ghost use Rattle.late_window.specs.Interleavings.{EachPair, IsJoin};
 ghost use Rattle.span_clusters.specs.Parts.{DontCross, IsSplitting};
 ghost use Rattle.cluster_pool.specs.Walks.{Left, left_states, IsStart, AreAtStart, GoesOn, GoOn, MayMerge, IsMergedSlot};
 
-use late_window::Fold;
+use late_window::{Fold, group_len};
 use span_clusters::{Done, Separable};
 use std::alloc::Global;
 use std::collections::VecDeque;
@@ -32,20 +32,6 @@ impl<F: Fold> Model for Walk<F> {
     ghost view = { λ w. record { state = w.state; slots = w.slots.items; states = w.states.items; outs = w.outs.items } };
 
     ghost invariant = { λ w. (length w.states.items ≡ length w.slots.items) × (length w.outs.items ≡ length w.slots.items) };
-}
-
-// The number of items at the beginning that are of this slot.
-fn group_len<F: Fold>(items: &[F::Item], slot: u64) -> usize
-    ensures { result ≡ group_count F.slot_of slot items.now }
-{
-    let mut count = 0;
-    for item in items {
-        if F::slot(item) != slot {
-            return count;
-        }
-        count += 1;
-    }
-    count
 }
 
 // The filled slots of items that rise.

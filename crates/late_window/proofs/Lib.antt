@@ -1,6 +1,7 @@
 pub mod Cuts
 pub mod Groups
 pub mod Inserting
+pub mod Late
 pub mod Latest
 pub mod Lines
 pub mod Lists

@@ -4,6 +4,7 @@
 
 mod fold;
 mod laws;
+mod reopening;
 mod running;
 #[cfg(test)]
 mod tests;
@@ -11,5 +12,6 @@ mod window;
 
 pub use fold::Fold;
 pub use laws::marks_last;
-pub use running::{count_slots, latest_of, run_slots};
+pub use reopening::Reopened;
+pub use running::{count_slots, group_len, latest_of, run_slots};
 pub use window::Window;

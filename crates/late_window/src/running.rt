@@ -6,8 +6,8 @@ use crate::Fold;
 use std::alloc::Global;
 use trk_base::{NoMemory, Ticket};
 
-// The number of items at the beginning that are of this slot.
-pub(crate) fn group_len<F: Fold>(items: &[F::Item], slot: u64) -> usize
+/// The number of items at the beginning that are of a slot.
+pub fn group_len<F: Fold>(items: &[F::Item], slot: u64) -> usize
     ensures { result ≡ group_count F.slot_of slot items.now }
 {
     let mut count = 0;

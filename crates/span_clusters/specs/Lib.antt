@@ -1,4 +1,3 @@
-pub mod Interleavings
 pub mod Parts
 pub mod Jobs
 pub mod Runs

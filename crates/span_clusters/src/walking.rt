@@ -4,21 +4,7 @@ ghost use Rattle.std.specs.List.{AllByRecursion};
 ghost use Rattle.late_window.specs.Folding.{Rises, group_count, states};
 ghost use Rattle.span_clusters.specs.Runs.{IsLeftOf};
 
-use late_window::Fold;
-
-// The number of items at the beginning that are of this slot.
-fn group_len<F: Fold>(items: &[F::Item], slot: u64) -> usize
-    ensures { result ≡ group_count F.slot_of slot items.now }
-{
-    let mut count = 0;
-    for item in items {
-        if F::slot(item) != slot {
-            return count;
-        }
-        count += 1;
-    }
-    count
-}
+use late_window::{Fold, group_len};
 
 // The items at the beginning that are of this slot, and those after them.
 pub(crate) fn split_group<F: Fold>(items: &[F::Item], slot: u64) -> (&[F::Item], &[F::Item])

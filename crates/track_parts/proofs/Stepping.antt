@@ -16,7 +16,7 @@ use Rattle.slot_step.proofs.Tables.{merged_of, run_of_none}
 use Rattle.slot_step.proofs.Tracker.{tracks_ordered}
 use Rattle.track_parts.specs.Members.{Tracks}
 use Rattle.slot_step.specs.declared.certs.KeyedCert.{KeyedCert}
-use Rattle.span_clusters.specs.Interleavings.{IsJoin}
+use Rattle.late_window.specs.Interleavings.{IsJoin}
 use Rattle.track_parts.specs.Tracking.{woven_by, by_birth, both_certs, SharesNone}
 use Rattle.track_parts.specs.Woven.{woven_is}
 

@@ -35,8 +35,8 @@ use Rattle.slot_step.proofs.Slotted.{currents, after, map_sorted}
 use Rattle.slot_step.proofs.Tables
 use Rattle.slot_step.proofs.Certifying
 use Rattle.slot_step.proofs.Tracker.{tracks_ordered}
-use Rattle.span_clusters.specs.Interleavings.{Interleaved, KeysDiffer}
-use Rattle.span_clusters.specs.Interleavings.Interleaved.{neither, first, second}
+use Rattle.late_window.specs.Interleavings.{Interleaved, KeysDiffer}
+use Rattle.late_window.specs.Interleavings.Interleaved.{neither, first, second}
 use Rattle.span_clusters.specs.Parts.{AreTwoInSlot, AreApart, picked_items}
 use Rattle.span_clusters.proofs.Numbered.{picks_mix, picks_all_items}
 use Rattle.track_parts.specs.Members.{Tracks}

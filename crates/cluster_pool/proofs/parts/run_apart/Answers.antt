@@ -23,8 +23,7 @@ joins-init g c =
       both = g.F.Separable.both;
     } in
     let b = some_before g.F.Fold.is_before g.F.Fold.slot_of c.args.state.now c.args.items.now c.requires.some c.requires.before in
-    let few : length c.in_ok-jobs.jobs.items ≤ 16 = search rules in
-    rw c.in_ok-done.ensures (kept_first F c.args.state.now c.args.items.now c.in_ok-jobs.jobs.items c.args.steps.now c.partition.new.steps (c.in_ok-jobs.ensures.splitting b.0 b.1) c.in_ok-jobs.ensures.numbers few c.in_ok-jobs.ensures.steps)
+    rw c.in_ok-done.ensures (kept_first F c.args.wish c.args.state.now c.args.items.now c.in_ok-jobs.jobs.items c.args.steps.now c.partition.new.steps (c.in_ok-jobs.ensures.splitting b.0 b.1) c.in_ok-jobs.ensures.numbers c.in_ok-jobs.ensures.few c.in_ok-jobs.ensures.steps)
 
 pub crossings-requires : goal.crossings-requires
 crossings-requires g c =
@@ -48,7 +47,7 @@ crossings-requires g c =
     let zs = c.args.items.now in
     let before = c.args.steps.now in
     let kept = c.joins.invariant in
-    record { parts = rw c.deref.ensures.value (kept_parts F s zs c.joins.done.items before c.joins.steps c.requires.rising kept) }
+    record { parts = rw c.deref.ensures.value (kept_parts F c.args.wish s zs c.joins.done.items before c.joins.steps c.requires.rising kept) }
 
 pub returns-then-is_empty-clause-clear : goal.returns-then-is_empty-clause-clear
 returns-then-is_empty-clause-clear g c =
@@ -56,8 +55,8 @@ returns-then-is_empty-clause-clear g c =
     let none : length c.in_ok-pairs.pairs.items ≡ 0 = search rules in
     none_cross M.next M.slot_of g.F.Separable.gates c.joins.done.items (λ a b h. empty_lacks c.in_ok-pairs.pairs.items (a, b) none ((c.in_ok-pairs.ensures.exact a b).1 (rw c.deref.ensures.value h)))
 
-pub returns-then-is_empty-clause-bound : goal.returns-then-is_empty-clause-bound
-returns-then-is_empty-clause-bound g c =
+pub returns-then-is_empty-clause-wished : goal.returns-then-is_empty-clause-wished
+returns-then-is_empty-clause-wished g c =
     let S = g.row.F-State.Denot in
     let I = g.row.F-Item.Denot in
     let K = g.row.F-Key.Denot in
@@ -78,10 +77,10 @@ returns-then-is_empty-clause-bound g c =
     let zs = c.args.items.now in
     let before = c.args.steps.now in
     let kept = c.joins.invariant in
-    kept_bound F s zs c.joins.done.items before c.joins.steps kept
+    kept_bound F c.args.wish s zs c.joins.done.items before c.joins.steps kept
 
-pub returns-in_err-pairs-clause-bound : goal.returns-in_err-pairs-clause-bound
-returns-in_err-pairs-clause-bound g c =
+pub returns-in_err-pairs-clause-wished : goal.returns-in_err-pairs-clause-wished
+returns-in_err-pairs-clause-wished g c =
     let S = g.row.F-State.Denot in
     let I = g.row.F-Item.Denot in
     let K = g.row.F-Key.Denot in
@@ -102,7 +101,7 @@ returns-in_err-pairs-clause-bound g c =
     let zs = c.args.items.now in
     let before = c.args.steps.now in
     let kept = c.joins.invariant in
-    kept_bound F s zs c.joins.done.items before c.joins.steps kept
+    kept_bound F c.args.wish s zs c.joins.done.items before c.joins.steps kept
 
 pub join_all-requires-clause-there : goal.join_all-requires-clause-there
 join_all-requires-clause-there g c =
@@ -131,10 +130,10 @@ join_all-requires-clause-parts g c =
     let zs = c.args.items.now in
     let before = c.args.steps.now in
     let kept = c.joins.invariant in
-    kept_parts F s zs c.joins.done.items before c.joins.steps c.requires.rising kept
+    kept_parts F c.args.wish s zs c.joins.done.items before c.joins.steps c.requires.rising kept
 
-pub returns-in_err-made-clause-bound : goal.returns-in_err-made-clause-bound
-returns-in_err-made-clause-bound g c =
+pub returns-in_err-made-clause-wished : goal.returns-in_err-made-clause-wished
+returns-in_err-made-clause-wished g c =
     let S = g.row.F-State.Denot in
     let I = g.row.F-Item.Denot in
     let K = g.row.F-Key.Denot in
@@ -155,10 +154,10 @@ returns-in_err-made-clause-bound g c =
     let zs = c.args.items.now in
     let before = c.args.steps.now in
     let kept = c.joins.invariant in
-    kept_failed F s zs c.joins.done.items before c.joins.steps c.join_all.new.steps kept (c.join_all.ensures.bound s zs c.requires.rising kept.splitting)
+    kept_failed F c.args.wish s zs c.joins.done.items before c.joins.steps c.join_all.new.steps kept (c.join_all.ensures.bound s zs c.requires.rising kept.splitting)
 
-pub returns-in_err-next-clause-bound : goal.returns-in_err-next-clause-bound
-returns-in_err-next-clause-bound g c =
+pub returns-in_err-next-clause-wished : goal.returns-in_err-next-clause-wished
+returns-in_err-next-clause-wished g c =
     let S = g.row.F-State.Denot in
     let I = g.row.F-Item.Denot in
     let K = g.row.F-Key.Denot in
@@ -179,7 +178,7 @@ returns-in_err-next-clause-bound g c =
     let zs = c.args.items.now in
     let before = c.args.steps.now in
     let kept = c.joins.invariant in
-    kept_failed F s zs c.joins.done.items before c.joins.steps c.join_all.new.steps kept (c.join_all.ensures.bound s zs c.requires.rising kept.splitting)
+    kept_failed F c.args.wish s zs c.joins.done.items before c.joins.steps c.join_all.new.steps kept (c.join_all.ensures.bound s zs c.requires.rising kept.splitting)
 
 pub joins-preserved : goal.joins-preserved
 joins-preserved g c =
@@ -203,10 +202,10 @@ joins-preserved g c =
     let zs = c.args.items.now in
     let before = c.args.steps.now in
     let kept = c.joins.invariant in
-    rw c.in_ok-next.ensures (kept_joined F s zs c.joins.done.items (c.in_ok-made.made.items ++ c.in_ok-made.left.items) before c.joins.steps c.join_all.new.steps c.requires.rising kept c.in_ok-made.ensures.joined)
+    rw c.in_ok-next.ensures (kept_joined F c.args.wish s zs c.joins.done.items (c.in_ok-made.made.items ++ c.in_ok-made.left.items) before c.joins.steps c.join_all.new.steps c.requires.rising kept c.in_ok-made.ensures.joined)
 
-pub returns-in_err-done-clause-bound : goal.returns-in_err-done-clause-bound
-returns-in_err-done-clause-bound g c =
+pub returns-in_err-done-clause-wished : goal.returns-in_err-done-clause-wished
+returns-in_err-done-clause-wished g c =
     let S = g.row.F-State.Denot in
     let I = g.row.F-Item.Denot in
     let K = g.row.F-Key.Denot in
@@ -224,6 +223,5 @@ returns-in_err-done-clause-bound g c =
       both = g.F.Separable.both;
     } in
     let b = some_before g.F.Fold.is_before g.F.Fold.slot_of c.args.state.now c.args.items.now c.requires.some c.requires.before in
-    let few : length c.in_ok-jobs.jobs.items ≤ 16 = search rules in
-    kept_bound F c.args.state.now c.args.items.now c.in_ok-jobs.jobs.items c.args.steps.now c.partition.new.steps
-    (kept_first F c.args.state.now c.args.items.now c.in_ok-jobs.jobs.items c.args.steps.now c.partition.new.steps (c.in_ok-jobs.ensures.splitting b.0 b.1) c.in_ok-jobs.ensures.numbers few c.in_ok-jobs.ensures.steps)
+    kept_bound F c.args.wish c.args.state.now c.args.items.now c.in_ok-jobs.jobs.items c.args.steps.now c.partition.new.steps
+    (kept_first F c.args.wish c.args.state.now c.args.items.now c.in_ok-jobs.jobs.items c.args.steps.now c.partition.new.steps (c.in_ok-jobs.ensures.splitting b.0 b.1) c.in_ok-jobs.ensures.numbers c.in_ok-jobs.ensures.few c.in_ok-jobs.ensures.steps)

@@ -1,6 +1,7 @@
-use Rattle.std.proofs.Common.{◌∙◌, ap, sym, subst, map}
+use Rattle.std.proofs.Common.{◌≡◌, ◌∙◌, ap, sym, subst, length, map, arith}
+use Rattle.std.proofs.Math.Nat.{mul-le-mul_left}
 use Rattle.std.proofs.lemmas.Result.{IfOk-weaker}
-use Rattle.late_window.specs.Folding.{after, OutsAt}
+use Rattle.late_window.specs.Folding.{after, slots, OutsAt}
 use Rattle.late_window.proofs.Cuts.{no_items}
 use Rattle.cluster_pool.proofs.parts.run_in_parts.Goals as goal
 
@@ -22,3 +23,20 @@ returns-clause-states g c = IfOk-weaker c.merged_runs.result _ _ (λ r h. h c.ar
 
 pub returns-clause-outs : goal.returns-clause-outs
 returns-clause-outs g c = IfOk-weaker c.merged_runs.result _ _ (λ r h. h c.args.state.now c.in_ok-done.ensures.splitting) c.merged_runs.ensures.outs
+
+pub returns-then-is_empty-clause-wished : goal.returns-then-is_empty-clause-wished
+returns-then-is_empty-clause-wished g c =
+    let none : length (slots g.F.Fold.slot_of c.args.items.now) ≡ 0 = ap length (no_items g.F.Fold.slot_of c.args.items.now (sym c.if-is_empty.true ∙ c.is_empty.ensures)) in
+    omega (arith, none)
+
+pub returns-in_err-done-clause-bound : goal.returns-in_err-done-clause-bound
+returns-in_err-done-clause-bound g c =
+    let most = length (slots g.F.Fold.slot_of c.args.items.now) in
+    let wished = c.run_apart.ensures.wished in
+    omega (arith, wished, mul-le-mul_left most c.requires.most)
+
+pub returns-clause-bound : goal.returns-clause-bound
+returns-clause-bound g c =
+    let most = length (slots g.F.Fold.slot_of c.args.items.now) in
+    let wished = c.run_apart.ensures.wished in
+    omega (arith, wished, mul-le-mul_left most c.requires.most)
