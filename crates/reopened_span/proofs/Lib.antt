@@ -1,0 +1,5 @@
+pub mod ItemsOnSides
+pub mod Marked
+pub mod OnWay
+pub mod StartOnSides
+pub mod Stepping

@@ -1,0 +1,4 @@
+pub mod Lamps
+pub mod LampLaws
+pub mod Sides
+pub mod SpanSides
