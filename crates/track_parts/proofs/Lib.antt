@@ -4,3 +4,6 @@ pub mod Stepping
 pub mod Unread
 pub mod Runs
 pub mod Renumbered
+pub mod LeftTracks
+pub mod Walked
+pub mod KeptApart

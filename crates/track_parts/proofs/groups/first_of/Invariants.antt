@@ -1,5 +1,5 @@
 use Rattle.std.proofs.Common.{◌≤◌}
-use Rattle.track_parts.proofs.choosing.first_of.Given as goal
+use Rattle.track_parts.proofs.groups.first_of.Given as goal
 
 abbrev pub invariant-way : goal.invariant-way
 invariant-way l = l.at ≤ l.item
