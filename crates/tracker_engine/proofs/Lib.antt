@@ -10,3 +10,4 @@ pub mod Slots
 pub mod Standing
 pub mod States
 pub mod Tables
+pub mod TakenOver

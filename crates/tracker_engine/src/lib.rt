@@ -6,6 +6,7 @@
 
 mod absorbing;
 mod engine;
+mod reopening;
 mod settling;
 mod showing;
 #[cfg(test)]
