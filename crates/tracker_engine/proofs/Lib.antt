@@ -10,4 +10,3 @@ pub mod Slots
 pub mod Standing
 pub mod States
 pub mod Tables
-pub mod TakenOver

@@ -101,9 +101,8 @@ impl Engine {
     /// Brings the tracks up to the last tick: each filled slot that is over, from the first that is new
     /// or was reopened on. With a wish above 1 they are folded in up to that many parts by the pool,
     /// where no biases change among them, and else in place; the wish and the pool change nothing of
-    /// what comes of it. Of slots that late plots alone reopened, what these can't have changed is
-    /// taken over from what was folded before. It takes at most 31 steps for each of the slots, also
-    /// where it fails. After an error the engine is as it was.
+    /// what comes of it. It takes at most 31 steps for each of the slots, also where it fails. After
+    /// an error the engine is as it was.
     pub fn settle<P: Pool, L: Ledger>(
         &mut self,
         pool: &mut P,

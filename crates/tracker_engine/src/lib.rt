@@ -6,7 +6,6 @@
 
 mod absorbing;
 mod engine;
-mod reopening;
 mod settling;
 mod showing;
 #[cfg(test)]

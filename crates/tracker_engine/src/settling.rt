@@ -1,14 +1,12 @@
-// How what is to be folded of a window is folded: in place, or in parts by a pool, and what late plots can't have changed is taken over.
-ghost use Rattle.std.specs.Prelude.{◌≡◌, ◌≤◌, ◌+◌, ◌*◌, List, map, length, None, IfOk, IfSome, OnOk, OnErr};
+// How what is to be folded of a window is folded: in place, or in parts by a pool.
+ghost use Rattle.std.specs.Prelude.{◌≡◌, ◌≤◌, ◌+◌, ◌*◌, List, map, length, None, IfOk, OnOk, OnErr};
 ghost use Rattle.plot_geometry.specs.PlotOrder.{plot_cmp};
 ghost use Rattle.late_window.specs.Folding.{Rises, BeforeFirst, AreOutsOf, below, slots, states};
-ghost use Rattle.late_window.specs.Reopening.{WasFolded};
 ghost use Rattle.late_window.specs.Windows.{StandsFor, folded, first, dirty_slots};
 ghost use Rattle.slot_step.specs.Told.{AreTold};
 ghost use Rattle.slot_step.specs.Tracker.{step_tracks};
-ghost use Rattle.track_parts.specs.Numbered.{living, without_numbers};
-ghost use Rattle.track_parts.specs.Tracking.{AreCertified, IsBefore, key_of_plot, slot_of_plot};
-ghost use Rattle.track_parts.specs.Tracking as parts;
+ghost use Rattle.track_parts.specs.Numbered.{living};
+ghost use Rattle.track_parts.specs.Tracking.{IsBefore, key_of_plot, slot_of_plot};
 ghost use Rattle.admission_log.specs.declared.entries.Entry.{Entry};
 ghost use Rattle.admission_log.specs.Entries.{slot_in};
 ghost use Rattle.admission_log.specs.EntryOrder.{entry_cmp};
@@ -17,20 +15,19 @@ ghost use Rattle.tracker_fold.specs.Keys.{key_in};
 ghost use Rattle.tracker_fold.specs.Spans.{AreWhole, with_table};
 ghost use Rattle.tracker_fold.specs.Steps.{next, IsOut};
 
-use crate::reopening::{plots_reopened, run_span};
-use cluster_pool::Pool;
-use late_window::{Reopened, Window};
+use cluster_pool::{Pool, run_in_parts};
+use late_window::Window;
 use plot_geometry::PlanePlot;
 use std::alloc::Global;
 use std::sync::ledger::Ledger;
 use track_parts::{PlotFold, Tracks, numbered_tables};
 use tracker_fold::{PricedCerts, TrackerFold, TrackerState, span_outs, span_plots, span_states};
-use trk_base::{NoMemory, Steps, TryCopy};
+use trk_base::{NoMemory, Steps};
 
 /// Folds the filled slots of a window below `upto`, from the first that isn't folded on, to the same
-/// states and outs whatever the wish: where biases change among what is to be folded, or with a wish
-/// of 1, in place; else in up to that many parts, by the pool. Where late plots alone reopened slots,
-/// what they can't have changed is taken over. After an error the window is as it was.
+/// states and outs whatever the wish: with a wish of 1, or where biases change among what is to be
+/// folded, in place; else in up to that many parts, by the pool. After an error the window is as it
+/// was.
 pub fn settle_window<P: Pool, L: Ledger>(
     alloc: Global,
     window: &mut Window<TrackerFold>,
@@ -51,25 +48,22 @@ pub fn settle_window<P: Pool, L: Ledger>(
     ensures rises { steps.old ≤ steps.new }
     ensures bound { steps.new ≤ steps.old + 31 * length (dirty_slots slot_in window.old upto) }
 {
-    let reopened = window.take_reopened()?;
-    if wish > 1 || reopened.is_some() {
+    if wish > 1 {
         let (state, entries) = window.span(upto)?;
         if let Some(plots) = span_plots(alloc, state.radars.as_slice(), &entries)? {
-            let known = plots_reopened(alloc, &state, reopened)?;
-            let (states, outs) = fold_plots(alloc, state, &plots, known, pool, wish, steps)?;
+            let (states, outs) = fold_plots(alloc, state, &plots, pool, wish, steps)?;
             return window.place(upto, states, outs);
         }
     }
     window.settle(upto, steps)
 }
 
-// The state and the certificates after each filled slot of plots, from a state on, run without
-// numbers, which are given afterwards. What is known was folded before late plots came among them.
+// The state and the certificates after each filled slot of plots, from a state on, folded in parts
+// without numbers, which are given afterwards.
 fn fold_plots<P: Pool, L: Ledger>(
     alloc: Global,
     state: TrackerState,
     plots: &[PlanePlot],
-    known: Option<Reopened<PlotFold>>,
     pool: &mut P,
     wish: u8,
     steps: &mut Steps<L>,
@@ -78,7 +72,6 @@ fn fold_plots<P: Pool, L: Ledger>(
     requires most { wish ≤ 16 }
     requires rising { Rises plot_cmp key_of_plot plots.now }
     requires before { BeforeFirst IsBefore slot_of_plot (living state.life state.table) plots.now }
-    requires was { IfSome known (λ r. WasFolded parts.next AreCertified slot_of_plot (living state.life (without_numbers state.table)) (below slot_of_plot r.until plots.now) r.late.items r.states.items r.outs.items) }
     ensures states { IfOk result (λ r. r.0.items ≡ map (with_table state) (states (step_tracks state.life) slot_of_plot state.table plots.now)) }
     ensures outs { IfOk result (λ r. AreOutsOf (step_tracks state.life) slot_of_plot (AreTold state.life) state.table plots.now r.1.items) }
     ensures whole { IfOk result (λ r. AreWhole r.1.items) }
@@ -90,10 +83,9 @@ fn fold_plots<P: Pool, L: Ledger>(
         radars,
         table,
     } = state;
-    let copied = table.copy(alloc)?;
-    let start = Tracks::of(life, copied).without_numbers();
-    let (runs, told) = run_span(alloc, &start, plots, known, pool, wish, steps)?;
-    let tables = numbered_tables(alloc, &table, runs)?;
+    let tracks = Tracks::of(life, table);
+    let (runs, told) = run_in_parts::<PlotFold, P, L>(alloc, pool, &tracks, plots, wish, steps)?;
+    let tables = numbered_tables(alloc, tracks.table(), runs)?;
     let states = span_states(alloc, life, &radars, tables)?;
     let outs = span_outs(alloc, told)?;
     Ok((states, outs))

@@ -53,8 +53,6 @@ const ENDS: [u8; 36] = [
 enum Item {
     // A plot, by its radar's SIC and the last two octets of its time of day.
     Plot(u8, u8, u8),
-    // One of the first radar at so many nautical miles.
-    At(u8, u8, u8),
     North,
     Tick(u64),
     // A change of the first radar's biases from a slot on.
@@ -229,53 +227,6 @@ const REVERSE: Case = Case {
     }],
 };
 
-// Logs with late plots.
-const LATE_LOGS: [&[Item]; 3] = [
-    // Three aircraft far apart, and a late plot of the second, which is confirmed by it before the
-    // third and so takes its number.
-    &[
-        Item::At(1, 0x50, 0x0A),
-        Item::At(50, 0x50, 0x0C),
-        Item::At(100, 0x50, 0x0E),
-        Item::Tick(4_608_128),
-        Item::At(1, 0x50, 0x8A),
-        Item::At(100, 0x50, 0x8E),
-        Item::Tick(4_608_256),
-        Item::At(1, 0x51, 0x0A),
-        Item::At(50, 0x51, 0x0C),
-        Item::At(100, 0x51, 0x0E),
-        Item::Tick(4_608_384),
-        Item::At(50, 0x50, 0x8C),
-        Item::At(1, 0x51, 0x8A),
-        Item::Tick(4_608_512),
-        Item::Tick(4_608_640),
-    ],
-    // Two close by, of which a late plot may be of either.
-    &[
-        Item::At(1, 0x50, 0x0A),
-        Item::At(2, 0x50, 0x0C),
-        Item::Tick(4_608_128),
-        Item::At(2, 0x50, 0x8C),
-        Item::Tick(4_608_256),
-        Item::At(1, 0x50, 0x8A),
-        Item::At(1, 0x51, 0x0A),
-        Item::Tick(4_608_384),
-        Item::Tick(4_608_512),
-    ],
-    // A change of biases that comes together with a late plot.
-    &[
-        Item::At(1, 0x50, 0x0A),
-        Item::At(50, 0x50, 0x0C),
-        Item::Tick(4_608_128),
-        Item::At(50, 0x50, 0x8C),
-        Item::Tick(4_608_256),
-        Item::Change(72_002),
-        Item::At(1, 0x50, 0x8A),
-        Item::Tick(4_608_384),
-        Item::Tick(4_608_512),
-    ],
-];
-
 fn radar(sic: u8) -> RadarSettings
     ensures sac { result.sac ≡ 1 }
     ensures sic { result.sic ≡ sic }
@@ -345,11 +296,6 @@ fn take(rt: &impl Abort, settings: &Settings, log: &mut Log, item: Item)
     match item {
         Item::Plot(sic, middle, low) => {
             assert!(rt; log.admit(settings, 0, &plot(sic, middle, low)).is_ok());
-        }
-        Item::At(miles, middle, low) => {
-            let mut octets = plot(1, middle, low);
-            octets[10] = miles;
-            assert!(rt; log.admit(settings, 0, &octets).is_ok());
         }
         Item::North => {
             assert!(rt; log.admit(settings, 0, &NORTH).is_ok());
@@ -528,108 +474,4 @@ fn tells_editions_in_parts(rt: HostRuntime) -> Result<(), Fail> {
     tells::<_, Brand>(&rt, rt.alloc(), settings, &LATE, 4, Blank::new(1))?;
     let settings = two_radars(rt.alloc())?;
     tells::<_, Brand>(&rt, rt.alloc(), settings, &REVERSE, 4, Blank::new(1))
-}
-
-// Where the last editions of a log are cut, of which each item is an event: behind the ticks, so
-// many of them.
-fn last_cuts(alloc: Global, items: &[Item], most: usize) -> Result<Vec<usize>, NoMemory> {
-    let mut cuts = Vec::new(alloc);
-    for place in 0..items.len() {
-        if let Item::Tick(_) = items[place] {
-            cuts.push(place + 1)?;
-        }
-    }
-    let skipped = cuts.len().saturating_sub(most);
-    drop(cuts.drain(..skipped));
-    Ok(cuts)
-}
-
-// Goes through the cuts of a log: the engine, and what it tells at the last one, which is the
-// eighth edition.
-fn go_through<P: Pool, L: Ledger>(
-    rt: &impl Abort,
-    engine: Engine,
-    log: &Log,
-    cuts: &[usize],
-    pool: &mut P,
-    wish: u8,
-    steps: &mut Steps<L>,
-) -> Result<(Engine, Option<Advanced>), Fail>
-    requires least { 1 ≤ wish }
-    requires most { wish ≤ 16 }
-    requires stands { (settings : Settings) × (before : ℕ) × IsLegal settings log.now × StandsFor settings (first 0 log.now) 0 before engine }
-{
-    let mut engine = engine;
-    let mut from = 0;
-    let mut number = 9u64.saturating_sub(cuts.len() as u64).max(1);
-    let mut told = None;
-    for cut in cuts {
-        assert!(rt; from < *cut && *cut <= log.events().len() && number < 9);
-        let advanced = advance(&mut engine, log, from, *cut, number, pool, wish, steps)?;
-        told = Some(advanced);
-        from = *cut;
-        number += 1;
-    }
-    Ok((engine, told))
-}
-
-fn ends<R: Abort + Threads + Sync, L: Ledger>(
-    rt: &R,
-    alloc: Global,
-    settings: Settings,
-    items: &[Item],
-    editions: usize,
-    wish: u8,
-    blank: Blank,
-) -> Result<(Engine, Option<Advanced>), Fail>
-    requires least { 1 ≤ wish }
-    requires most { wish ≤ 16 }
-    requires name { blank.name ≡ L.name }
-    requires parts { blank.parts ≡ L.parts }
-    requires one { blank.parts ≡ 1 }
-{
-    let mut log = Log::new(alloc, START);
-    for item in items {
-        take(rt, &settings, &mut log, *item);
-    }
-    let engine = Engine::new(alloc, Arc::new(alloc, settings)?, log.start())?;
-    let mut pool = Inline::<R>::new();
-    let mut steps = Steps::<L>::new(blank);
-    let cuts = last_cuts(alloc, items, editions)?;
-    go_through(rt, engine, &log, &cuts, &mut pool, wish, &mut steps)
-}
-
-// Whether two engines have the same tracks, and tell the same.
-fn are_same(one: &(Engine, Option<Advanced>), other: &(Engine, Option<Advanced>)) -> bool {
-    let (Some(told), Some(same)) = (&one.1, &other.1) else {
-        return false;
-    };
-    let tracks = one.0.table().tracks();
-    told.pictured.datagrams == same.pictured.datagrams
-        && told.prices == same.prices
-        && tracks
-            .iter()
-            .map(|track| (track.birth, track.number, track.plots))
-            .eq(
-                other
-                    .0
-                    .table()
-                    .tracks()
-                    .iter()
-                    .map(|track| (track.birth, track.number, track.plots)),
-            )
-}
-
-#[test]
-fn tells_late_plots_as_if_none_were_late(rt: HostRuntime) -> Result<(), Fail> {
-    for items in &LATE_LOGS {
-        let settings = one_radar(rt.alloc(), 2)?;
-        let whole = ends::<_, Brand>(&rt, rt.alloc(), settings, items, 2, 1, Blank::new(1))?;
-        for wish in [1, 4] {
-            let settings = one_radar(rt.alloc(), 2)?;
-            let late = ends::<_, Brand>(&rt, rt.alloc(), settings, items, 8, wish, Blank::new(1))?;
-            assert!(rt; are_same(&late, &whole));
-        }
-    }
-    Ok(())
 }
