@@ -5,3 +5,4 @@ pub mod Turning
 pub mod Members
 pub mod Ending
 pub mod Dealing
+pub mod Publishing

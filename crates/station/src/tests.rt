@@ -14,6 +14,8 @@ use track_life::LifeSettings;
 use trk_base::{NoMemory, Sequence};
 
 mod beside;
+mod judging;
+mod rounds;
 
 const START: u64 = 4_608_000;
 

@@ -1,114 +1,160 @@
 // Two feeders, the conductor and a subscriber, each in a thread of its own.
-ghost use Rattle.std.specs.Prelude.{◌≡◌, ◌<◌, ◌^◌, All, EachIndex, IfOk, IsSomeAnd, slice_get};
+ghost use Rattle.std.specs.Prelude.{◌≡◌, All, EachIndex, IfOk, IsSomeAnd, slice_get};
+ghost use Rattle.std.specs.Arc.{arc_value};
 ghost use denote.Param.Send.{IsSync};
 ghost use Rattle.station.specs.Tokens.{IsFeederOf, IsConductorOf, IsSubscriberOf};
+ghost use Rattle.station.specs.Rounds.{PublishesNone};
 
+use super::judging::{Course, are_conducted, are_received, count_admitted, course_of};
+use super::rounds::{conduct_round, is_of_none};
 use super::{START, one_radar, report};
 use crate::*;
-use admission_log::{Event, Outcome};
+use admission_log::{Receipt, Settings};
+use edition_form::Edition;
 use std::alloc::Global;
 use std::sync::{Arc, Wait};
 use std::test::Fail;
 use std::thread::{Threads, join};
 use trk_base::NoMemory;
 
-// How many datagrams each feeder admits, how many ticks the conductor takes, and how often the
+// How many datagrams each feeder admits, how many rounds the conductor takes, and how often the
 // subscriber asks.
-const TURNS: u64 = 1000;
+const TURNS: u64 = 10_000;
 
 // ---- what each of them does
 
-// Admits datagrams of one plot, and answers the indices of their events.
+// Admits datagrams of one plot, and answers what was told of them.
 fn admit_all<W: Wait>(
     rt: &W,
     alloc: Global,
     station: &Station,
     mut feeder: Feeder,
-) -> (Feeder, Option<Vec<u64>>)
+) -> (Feeder, Option<Vec<Receipt>>)
     requires own { IsFeederOf station.now feeder }
     ensures own { IsFeederOf station.now result.0 }
     ensures feed { result.0.feed ≡ feeder.feed }
 {
-    let mut indices = Vec::new(alloc);
+    let mut receipts = Vec::new(alloc);
     let datagram = report(4_608_000);
     for _ in 0..TURNS {
         let Ok(receipt) = station.admit(rt, &mut feeder, &datagram) else {
             return (feeder, None);
         };
-        if indices.push(receipt.at).is_err() {
+        if receipts.push(receipt).is_err() {
             return (feeder, None);
         }
     }
-    (feeder, Some(indices))
+    (feeder, Some(receipts))
 }
 
-// Takes a tick and gathers. Answers how many events were gathered.
-fn tick_on<W: Wait>(rt: &W, station: &Station, conductor: &mut Conductor, time: u64) -> Option<u64>
-    requires own { IsConductorOf station.now conductor.old }
-    requires time { time < 2 ^ 40 }
-    ensures own { IsConductorOf station.now conductor.new }
-{
-    station.tick(rt, conductor, time).ok()?;
-    let events = station.gather(rt, conductor).ok()?;
-    Some(events.len() as u64)
-}
-
-// Takes all ticks. Answers how many events were gathered.
-fn tick_all<W: Wait>(
+// Takes all rounds of a conductor. Answers the indices of its ticks and editions.
+fn conduct_all<W: Wait>(
     rt: &W,
+    alloc: Global,
     station: &Station,
+    settings: &Settings,
     mut conductor: Conductor,
-) -> (Conductor, Option<u64>)
-    requires own { IsConductorOf station.now conductor }
+) -> (Conductor, Option<Vec<u64>>)
+    requires ready { PublishesNone station.now settings.now conductor 1 }
     ensures own { IsConductorOf station.now result.0 }
 {
-    let mut gathered = 0;
+    let mut indices = Vec::new(alloc);
     for turn in 0..TURNS {
-        let Some(count) = tick_on(rt, station, &mut conductor, START + 1 + turn) else {
+        let Some((ticked, published)) = conduct_round(
+            rt,
+            alloc,
+            station,
+            settings,
+            &mut conductor,
+            turn + 1,
+        ) else {
             return (conductor, None);
         };
-        gathered = u64::saturating_add(gathered, count);
+        if indices.push(ticked).is_err() || indices.push(published).is_err() {
+            return (conductor, None);
+        }
     }
-    (conductor, Some(gathered))
+    (conductor, Some(indices))
 }
 
-// Asks for the next edition again and again, and answers how many it got. None where the published
-// number fell.
+// What a subscriber knows: the number of the last edition that it took, and the last number that it
+// was told.
+#[derive(Clone, Copy, Debug, PartialEq, Eq)]
+struct Known {
+    taken: u64,
+    told: u64,
+}
+
+// The number of an edition, or 0. None where it isn't as it was published.
+fn number_of(edition: &Option<Arc<Edition>>) -> Option<u64> {
+    match edition {
+        Some(edition) if is_of_none(edition) => Some(edition.number),
+        Some(_) => None,
+        None => Some(0),
+    }
+}
+
+// What is known after the next edition, or after none. None where it goes back, or there was a newer
+// one.
+fn known_after(known: Known, newest: u64, next: u64) -> Option<Known> {
+    let taken = if next == 0 { known.taken } else { next };
+    let goes_on = known.told <= newest && newest <= taken && (next == 0 || known.taken < next);
+    if goes_on {
+        Some(Known { taken, told: taken })
+    } else {
+        None
+    }
+}
+
+// Asks for the newest edition, for the next one and for the last number. None where one goes back.
+fn ask<W: Wait>(
+    rt: &W,
+    station: &Station,
+    subscriber: &mut Subscriber,
+    known: Known,
+) -> Option<Known>
+    requires own { IsSubscriberOf station.now subscriber.old }
+    ensures own { IsSubscriberOf station.now subscriber.new }
+    ensures reader { subscriber.new.reader ≡ subscriber.old.reader }
+{
+    let newest = number_of(&station.latest(rt, subscriber).ok()?)?;
+    let next = number_of(&subscriber.next(rt, station).ok()?)?;
+    let told = station.fresh(subscriber);
+    let known = known_after(known, newest, next)?;
+    if told < known.taken {
+        return None;
+    }
+    Some(Known { told, ..known })
+}
+
+// Asks again and again, and answers what is known then.
 fn ask_all<W: Wait>(
     rt: &W,
     station: &Station,
     mut subscriber: Subscriber,
-) -> (Subscriber, Option<u64>)
+) -> (Subscriber, Option<Known>)
     requires own { IsSubscriberOf station.now subscriber }
     ensures own { IsSubscriberOf station.now result.0 }
     ensures reader { result.0.reader ≡ subscriber.reader }
 {
-    let mut told = 0;
-    let mut count = 0;
+    let mut known = Known { taken: 0, told: 0 };
     for _ in 0..TURNS {
-        let Ok(next) = subscriber.next(rt, station) else {
+        let Some(more) = ask(rt, station, &mut subscriber, known) else {
             return (subscriber, None);
         };
-        if next.is_some() {
-            count = u64::saturating_add(count, 1);
-        }
-        let fresh = station.fresh(&mut subscriber);
-        if fresh < told {
-            return (subscriber, None);
-        }
-        told = fresh;
+        known = more;
     }
-    (subscriber, Some(count))
+    (subscriber, Some(known))
 }
 
 // ---- threads of their own
 
 // A token that comes back from a thread, with what was done there.
-type Fed = (Feeder, Option<Vec<u64>>);
+type Fed = (Feeder, Option<Vec<Receipt>>);
 
-type Conducted = (Conductor, Option<u64>);
+type Conducted = (Conductor, Option<Vec<u64>>);
 
-type Asked = (Subscriber, Option<u64>);
+type Asked = (Subscriber, Option<Known>);
 
 fn feed_beside<R: Threads + Wait + Sync>(
     rt: &R,
@@ -136,20 +182,22 @@ fn feed_beside<R: Threads + Wait + Sync>(
 
 fn conduct_beside<R: Threads + Wait + Sync>(
     rt: &R,
+    alloc: Global,
     station: &Station,
+    settings: &Settings,
     conductor: Conductor,
     subscriber: Subscriber,
 ) -> (Conducted, Asked)
-    requires own { IsConductorOf station.now conductor × IsSubscriberOf station.now subscriber }
+    requires own { PublishesNone station.now settings.now conductor 1 × IsSubscriberOf station.now subscriber }
     ensures own { IsConductorOf station.now result.0.0 × IsSubscriberOf station.now result.1.0 }
     ensures reader { result.1.0.reader ≡ subscriber.reader }
 {
     join(
         rt,
         move || -> Conducted
-            requires { IsConductorOf station.now conductor }
+            requires { PublishesNone station.now settings.now conductor 1 }
             ensures { IsConductorOf station.entry.now result.0 }
-        { tick_all(rt, station, conductor) },
+        { conduct_all(rt, alloc, station, settings, conductor) },
         move || -> Asked
             requires { IsSubscriberOf station.now subscriber }
             ensures { IsSubscriberOf station.entry.now result.0 × (result.0.reader ≡ subscriber.reader) }
@@ -164,11 +212,12 @@ fn all_beside<R: Threads + Wait + Sync>(
     rt: &R,
     alloc: Global,
     station: &Station,
+    settings: &Settings,
     feeders: (Feeder, Feeder),
     others: (Conductor, Subscriber),
 ) -> Brought
     requires feeders { IsFeederOf station.now feeders.0 × IsFeederOf station.now feeders.1 }
-    requires others { IsConductorOf station.now others.0 × IsSubscriberOf station.now others.1 }
+    requires others { PublishesNone station.now settings.now others.0 1 × IsSubscriberOf station.now others.1 }
     ensures feeders { IsFeederOf station.now result.0.0.0 × IsFeederOf station.now result.0.1.0 }
     ensures feeds { (result.0.0.0.feed ≡ feeders.0.feed) × (result.0.1.0.feed ≡ feeders.1.feed) }
     ensures others { IsConductorOf station.now result.1.0.0 × IsSubscriberOf station.now result.1.1.0 }
@@ -183,9 +232,9 @@ fn all_beside<R: Threads + Wait + Sync>(
             ensures { IsFeederOf station.entry.now result.0.0 × IsFeederOf station.entry.now result.1.0 × (result.0.0.feed ≡ one.feed) × (result.1.0.feed ≡ other.feed) }
         { feed_beside(rt, alloc, station, one, other) },
         move || -> (Conducted, Asked)
-            requires { IsSync R.row × IsConductorOf station.now conductor × IsSubscriberOf station.now subscriber }
+            requires { IsSync R.row × PublishesNone station.now settings.now conductor 1 × IsSubscriberOf station.now subscriber }
             ensures { IsConductorOf station.entry.now result.0.0 × IsSubscriberOf station.entry.now result.1.0 × (result.1.0.reader ≡ subscriber.reader) }
-        { conduct_beside(rt, station, conductor, subscriber) },
+        { conduct_beside(rt, alloc, station, settings, conductor, subscriber) },
     )
 }
 
@@ -222,14 +271,17 @@ fn one_of(station: &Station, subscribers: Vec<Subscriber>) -> Result<Subscriber,
 }
 
 // A station of two feeds and one reader, with its tokens.
-fn opened(alloc: Global) -> Result<(Station, (Feeder, Feeder), (Conductor, Subscriber)), NoMemory>
+fn opened(
+    alloc: Global,
+    settings: &Arc<Settings>,
+) -> Result<(Station, (Feeder, Feeder), (Conductor, Subscriber)), NoMemory>
     ensures counts { IfOk result (λ r. (r.0.feeds ≡ 2) × (r.0.readers ≡ 1)) }
     ensures feeders { IfOk result (λ r. IsFeederOf r.0 r.1.0 × IsFeederOf r.0 r.1.1) }
     ensures feeds { IfOk result (λ r. (r.1.0.feed ≡ 0) × (r.1.1.feed ≡ 1)) }
-    ensures others { IfOk result (λ r. IsConductorOf r.0 r.2.0 × IsSubscriberOf r.0 r.2.1) }
+    ensures others { IfOk result (λ r. PublishesNone r.0 (arc_value settings.now) r.2.0 1 × IsSubscriberOf r.0 r.2.1) }
     ensures reader { IfOk result (λ r. r.2.1.reader ≡ 0) }
 {
-    let settings = Arc::new(alloc, one_radar(alloc)?)?;
+    let settings = Arc::try_clone(settings)?;
     let Opened {
         station,
         feeders,
@@ -262,94 +314,39 @@ fn closed(
     Ok(station.close(feeders, conductor, subscribers))
 }
 
-// ---- the history, judged
-
-// Whether the event is a datagram of the feed.
-fn is_of(event: &Event, feed: u8) -> bool {
-    match event {
-        Event::Deliver { feed: by, .. } => *by == feed,
-        _ => false,
-    }
-}
-
-// Whether the datagrams of a feed stand at exactly these indices.
-fn stand_at(events: &[Event], feed: u8, indices: &[u64]) -> bool {
-    let mut left = indices;
-    for (index, event) in events.iter().enumerate() {
-        if is_of(event, feed) {
-            let Some((first, rest)) = left.split_first() else {
-                return false;
-            };
-            if *first != index as u64 {
-                return false;
-            }
-            left = rest;
-        }
-    }
-    left.is_empty()
-}
-
-// The last tick, the next arrival and the number of the next edition.
-#[derive(Clone, Copy, Debug, PartialEq, Eq)]
-struct Course {
-    last: u64,
-    next: u64,
-    number: u64,
-}
-
-// The course after an event, if the event may stand there.
-fn course_after(course: Course, event: &Event) -> Option<Course> {
-    let mut after = course;
-    let may = match event {
-        Event::Deliver { outcomes, .. } => {
-            after.next = u64::saturating_add(course.next, 1);
-            outcomes.as_slice() == [Outcome::Admitted(course.next)].as_slice()
-        }
-        Event::Tick(time) => {
-            after.last = *time;
-            course.last < *time
-        }
-        Event::Publish { number, cut } => {
-            after.number = u64::saturating_add(course.number, 1);
-            *number == course.number && *cut == 0
-        }
-        Event::Bias { .. } => false,
-    };
-    if may { Some(after) } else { None }
-}
-
-// The course after all events, if each of them may stand where it does.
-fn course_of(events: &[Event]) -> Option<Course> {
-    let mut course = Course {
-        last: START,
-        next: 0,
-        number: 1,
-    };
-    for event in events {
-        course = course_after(course, event)?;
-    }
-    Some(course)
-}
-
 #[test]
 fn four_threads_make_one_history(rt: HostRuntime) -> Result<(), Fail> {
-    let (station, feeders, others) = opened(rt.alloc())?;
-    let ((one, other), (conducted, asked)) = all_beside(&rt, rt.alloc(), &station, feeders, others);
+    let settings = Arc::new(rt.alloc(), one_radar(rt.alloc())?)?;
+    let (station, feeders, others) = opened(rt.alloc(), &settings)?;
+    let ((one, other), (conducted, asked)) = all_beside(
+        &rt,
+        rt.alloc(),
+        &station,
+        &settings,
+        feeders,
+        others,
+    );
     let (one, first) = one;
     let (other, second) = other;
-    let (conductor, gathered) = conducted;
-    let (subscriber, editions) = asked;
+    let (conductor, rounds) = conducted;
+    let (mut subscriber, known) = asked;
+    let known = ask(&rt, &station, &mut subscriber, known.ok_or("number")?);
+    let last = Known {
+        taken: TURNS,
+        told: TURNS,
+    };
+    assert_eq!(rt; known, Some(last));
     let closed = closed(rt.alloc(), station, one, other, conductor, subscriber)?;
+    let events = closed.events.as_slice();
+    let (first, second) = (first.ok_or("receipts")?, second.ok_or("receipts")?);
     let course = Course {
         last: START + TURNS,
-        next: 2 * TURNS,
-        number: 1,
+        next: count_admitted(&first).saturating_add(count_admitted(&second)) as u64,
+        number: TURNS + 1,
     };
-    assert_eq!(rt; course_of(&closed.events), Some(course));
-    assert!(rt; stand_at(&closed.events, 0, &first.ok_or("memory")?));
-    assert!(rt; stand_at(&closed.events, 1, &second.ok_or("memory")?));
-    assert!(rt; gathered.ok_or("memory")? >= TURNS);
-    assert_eq!(rt; editions, Some(0));
-    assert!(rt; closed.start == START && closed.latest.is_none());
+    assert_eq!(rt; course_of(events), Some(course));
+    assert!(rt; are_received(events, 0, &first) && are_received(events, 1, &second));
+    assert!(rt; are_conducted(events, &rounds.ok_or("rounds")?));
+    assert!(rt; closed.start == START && number_of(&closed.latest) == Some(TURNS));
     Ok(())
 }
