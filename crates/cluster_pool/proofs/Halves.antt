@@ -3,7 +3,7 @@ use Rattle.std.proofs.Common.{◌≡◌, ◌∙◌, ap, sym, refl, subst, List, 
 use Rattle.std.specs.Prelude.{fold}
 use Rattle.std.specs.List.{AllByRecursion}
 use Rattle.late_window.proofs.Lists.{all_left, all_right}
-use Rattle.late_window.specs.Interleavings.{EachPair, IsJoin}
+use Rattle.span_clusters.specs.Interleavings.{EachPair, IsJoin}
 use Rattle.cluster_pool.specs.Walks.{Left, left_states}
 
 module _ {X : Type 0} (R : X → X → Type 0) where

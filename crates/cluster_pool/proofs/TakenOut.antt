@@ -4,7 +4,7 @@ use Rattle.std.specs.Prelude.{Contains, min, max}
 use Rattle.std.specs.List.{AllByRecursion}
 use Rattle.std.proofs.lemmas.Bool.{cases_lt}
 use Rattle.late_window.specs.Folding.{BeforeFirst}
-use Rattle.late_window.specs.Interleavings.{KeysDiffer, EachPair}
+use Rattle.span_clusters.specs.Interleavings.{KeysDiffer, EachPair}
 use Rattle.span_clusters.specs.Parts.{Part, Cross, Without, joined}
 use Rattle.span_clusters.specs.Jobs.{NumbersDiffer, AreBeforeBoth, AreParts, CrossWith, CrossAs, part_numbers}
 use Rattle.span_clusters.proofs.Interleavings.{contains_first, contains_later, contains_cons}

@@ -9,7 +9,7 @@ use Rattle.late_window.specs.Folding.{Rises, at_slot, with_slot, slots, before, 
 use Rattle.late_window.proofs.Groups.{SlotsRise, slots_rise}
 use Rattle.late_window.proofs.Cuts.{slots_all}
 use Rattle.late_window.proofs.Lists.{all_weaker, all_append}
-use Rattle.late_window.specs.Interleavings.{AllInterleaved, EachPair, IsJoin}
+use Rattle.span_clusters.specs.Interleavings.{AllInterleaved, EachPair, IsJoin}
 use Rattle.span_clusters.specs.Parts.{Part, IsFilled, IsSplitting, DontCross, all_items, states_after, OutsBegin, AreOutsAt}
 use Rattle.span_clusters.proofs.Interleavings.{contains_first, contains_later, contains_cons, all_contains, both_length, all_filtered, alone}
 use Rattle.span_clusters.proofs.Separating.{Separating, SeparatingLaws}

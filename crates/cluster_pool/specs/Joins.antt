@@ -2,7 +2,7 @@
 use Rattle.std.specs.Prelude.{◌≡◌, ◌≢◌, ◌≤◌, ◌+◌, ◌*◌, ℕ, List, Contains, length}
 use Rattle.std.specs.declared.cmp.Ordering.{Ordering}
 use Rattle.late_window.specs.Folding.{Rises, slots}
-use Rattle.late_window.specs.Interleavings.{Interleaved}
+use Rattle.span_clusters.specs.Interleavings.{Interleaved}
 use Rattle.span_clusters.specs.Parts.{Part, IsSplitting, Without, joined}
 use Rattle.span_clusters.specs.Jobs.{NumbersDiffer, part_numbers}
 

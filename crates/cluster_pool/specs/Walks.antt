@@ -3,7 +3,7 @@ use Rattle.std.specs.Prelude.{◌≡◌, ◌≢◌, ◌⊎◌, ◌<◌, ◌≤�
 use Rattle.std.specs.List.{AllByRecursion}
 use Rattle.std.specs.Option.{option_to_list}
 use Rattle.late_window.specs.Folding.{slots, states, AreOutsOf}
-use Rattle.late_window.specs.Interleavings.{EachPair, IsJoin}
+use Rattle.span_clusters.specs.Interleavings.{EachPair, IsJoin}
 use Rattle.span_clusters.specs.Parts.{Part}
 
 -- what is left of a part's run: the state before it, and its slots with the state and the out of each

@@ -1,7 +1,7 @@
 // A span run in parts.
 ghost use Rattle.std.specs.Prelude.{◌≡◌, ◌<◌, ◌≤◌, ◌+◌, ◌*◌, length, IfOk};
 ghost use Rattle.late_window.specs.Folding.{Rises, BeforeFirst, slots, states, AreOutsOf};
-ghost use Rattle.late_window.specs.Interleavings.{EachPair};
+ghost use Rattle.span_clusters.specs.Interleavings.{EachPair};
 ghost use Rattle.span_clusters.specs.Parts.{DontCross, IsSplitting};
 
 use crate::Pool;

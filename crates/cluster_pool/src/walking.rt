@@ -3,7 +3,7 @@ ghost use Rattle.std.specs.Prelude.{◌≡◌, ◌↔◌, ◌≤◌, ◌∷◌, 
 ghost use Rattle.std.specs.Option.{option_to_list};
 ghost use Rattle.std.specs.List.{AllByRecursion};
 ghost use Rattle.late_window.specs.Folding.{Rises, slots, states, AreOutsOf};
-ghost use Rattle.late_window.specs.Interleavings.{EachPair, IsJoin};
+ghost use Rattle.span_clusters.specs.Interleavings.{EachPair, IsJoin};
 ghost use Rattle.span_clusters.specs.Parts.{DontCross, IsSplitting};
 ghost use Rattle.cluster_pool.specs.Walks.{Left, left_states, IsStart, AreAtStart, GoesOn, GoOn, MayMerge, IsMergedSlot};
 

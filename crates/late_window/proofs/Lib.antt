@@ -1,7 +1,6 @@
 pub mod Cuts
 pub mod Groups
 pub mod Inserting
-pub mod Late
 pub mod Latest
 pub mod Lines
 pub mod Lists

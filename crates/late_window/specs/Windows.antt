@@ -1,5 +1,5 @@
 -- What a window shows, and what it stands for.
-use Rattle.std.specs.Prelude.{◌≡◌, ◌≢◌, ◌≤◌, ℕ, Bool, not, ◌&&◌, List, [], ◌∷◌, ◌==◌, filter, map, take, nat_lt, Option, Some, None}
+use Rattle.std.specs.Prelude.{◌≡◌, ◌≢◌, ◌≤◌, ℕ, Bool, not, ◌&&◌, List, [], ◌∷◌, ◌==◌, filter, map, nat_lt, Option, Some, None}
 use Rattle.std.specs.List.{AllByRecursion, list_any}
 use Rattle.std.specs.List.Sorted.{IsPermutation}
 use Rattle.std.specs.declared.cmp.Ordering.{Ordering}
@@ -17,10 +17,6 @@ pub record Seen (S I O : Type 0) : Type 0 where
   pub outs : List (ℕ × O)
   pub low : ℕ
   pub upto : ℕ
-
--- a window whose first states and outs are those of its folded slots
-abbrev pub shown : {S I O : Type 0} → S → List I → ℕ → List S → List (ℕ × O) → ℕ → ℕ → Seen S I O
-shown base items count ss os low upto = record { base = base; items = items; states = take count ss; outs = take count os; low = low; upto = upto }
 
 abbrev pub folded : {S I O : Type 0} → Seen S I O → List ℕ
 folded w = map (λ o. o.0) w.outs

@@ -4,7 +4,6 @@
 
 mod fold;
 mod laws;
-mod reopening;
 mod running;
 #[cfg(test)]
 mod tests;
@@ -12,6 +11,5 @@ mod window;
 
 pub use fold::Fold;
 pub use laws::marks_last;
-pub use reopening::Reopened;
 pub use running::{count_slots, group_len, latest_of, run_slots};
 pub use window::Window;

@@ -105,8 +105,6 @@ struct Watched<L: Ledger> {
     alloc: Global,
     window: Window<Trails>,
     all: Vec<(u64, u64)>,
-    // How many of these had come when all was folded the last time.
-    settled: usize,
     steps: Steps<L>,
 }
 
@@ -120,7 +118,6 @@ impl<L: Ledger> Watched<L> {
             alloc,
             window: Window::new(alloc, Trail { mix: 7, last: 0 }, 10),
             all: Vec::new(alloc),
-            settled: 0,
             steps: Steps::new(blank),
         }
     }
@@ -142,38 +139,6 @@ impl<L: Ledger> Watched<L> {
         assert!(rt; self.window.dirty_from() == None);
         let want = mix_below(self.alloc, &self.all, upto)?;
         assert!(rt; self.window.state().mix == want);
-        self.settled = self.all.len();
-        Ok(())
-    }
-
-    // Takes what was reopened, and compares it with the fold from nothing of what had come before.
-    fn take_reopened(&mut self, rt: &impl Abort) -> Result<Option<Reopened<Trails>>, Fail> {
-        let Some(reopened) = self.window.take_reopened()? else {
-            return Ok(None);
-        };
-        assert!(rt; self.settled <= self.all.len());
-        let (before, later) = self.all.split_at(self.settled);
-        for state in &reopened.states {
-            let want = mix_below(self.alloc, before, state.last.saturating_add(1))?;
-            assert!(rt; state.mix == want);
-        }
-        assert!(rt; reopened.late.iter().all(|item| later.contains(item)));
-        Ok(Some(reopened))
-    }
-
-    // Takes what was reopened, and compares the late items and the number of states.
-    fn compare_reopened(
-        &mut self,
-        rt: &impl Abort,
-        late: &[(u64, u64)],
-        states: usize,
-    ) -> Result<(), Fail> {
-        let Some(reopened) = self.take_reopened(rt)? else {
-            assert!(rt; late.is_empty());
-            return Ok(());
-        };
-        assert!(rt; reopened.late.iter().copied().eq(late.iter().copied()));
-        assert!(rt; reopened.states.len() == states && reopened.outs.len() == states);
         Ok(())
     }
 
@@ -192,7 +157,6 @@ impl<L: Ledger> Watched<L> {
             Step::Insert(slot, number) => self.insert(rt, slot, number),
             Step::Settle(upto) => self.settle(rt, upto),
             Step::CloseBelow(low) => self.close_below(rt, low),
-            Step::TakeReopened(late, states) => self.compare_reopened(rt, late, states),
         }
     }
 
@@ -212,13 +176,11 @@ enum Step {
     Insert(u64, u64),
     Settle(u64),
     CloseBelow(u64),
-    // The late items that are to be given, and the number of states; none where nothing is.
-    TakeReopened(&'static [(u64, u64)], usize),
 }
 
 // Steps, and after each of them the first filled slot that isn't folded, and the folded ones: a
 // late item in each place.
-const REOPENS: [(Step, Option<u64>, &[u64]); 23] = [
+const REOPENS: [(Step, Option<u64>, &[u64]); 16] = [
     (Step::Insert(12, 5), None, &[]),
     (Step::Insert(14, 2), None, &[]),
     (Step::Insert(12, 3), None, &[]),
@@ -227,31 +189,17 @@ const REOPENS: [(Step, Option<u64>, &[u64]); 23] = [
     (Step::Insert(20, 9), None, &[12, 14]),
     // In a folded slot.
     (Step::Insert(14, 1), Some(14), &[12]),
-    (Step::TakeReopened(&[(14, 1)], 1), Some(14), &[12]),
-    // Given once.
-    (Step::TakeReopened(&[], 0), Some(14), &[12]),
     (Step::Settle(16), None, &[12, 14]),
     // Below the first filled slot.
     (Step::Insert(11, 4), Some(11), &[]),
     // At `low`.
     (Step::Insert(10, 8), Some(10), &[]),
-    // Behind both.
-    (Step::Insert(15, 6), Some(10), &[]),
-    (
-        Step::TakeReopened(&[(10, 8), (11, 4), (15, 6)], 2),
-        Some(10),
-        &[],
-    ),
-    // After what was reopened was given.
-    (Step::Insert(11, 3), Some(10), &[]),
-    (Step::TakeReopened(&[], 0), Some(10), &[]),
-    (Step::Settle(16), None, &[10, 11, 12, 14, 15]),
-    (Step::Settle(18), None, &[10, 11, 12, 14, 15]),
-    (Step::Settle(20), None, &[10, 11, 12, 14, 15]),
-    (Step::CloseBelow(12), None, &[12, 14, 15]),
+    (Step::Settle(16), None, &[10, 11, 12, 14]),
+    (Step::Settle(18), None, &[10, 11, 12, 14]),
+    (Step::Settle(20), None, &[10, 11, 12, 14]),
+    (Step::CloseBelow(12), None, &[12, 14]),
     (Step::Insert(12, 1), Some(12), &[]),
-    (Step::TakeReopened(&[(12, 1)], 3), Some(12), &[]),
-    (Step::Settle(30), None, &[12, 14, 15, 20]),
+    (Step::Settle(30), None, &[12, 14, 20]),
     (Step::CloseBelow(30), None, &[]),
 ];
 
@@ -278,7 +226,6 @@ fn agrees<L: Ledger>(rt: &impl Abort, watched: &mut Watched<L>, seed: u64) -> Re
         watched.insert(rt, low.saturating_add(pick % 8), number)?;
         if pick % 3 == 0 {
             upto = low.saturating_add(pick % 5).max(upto);
-            drop(watched.take_reopened(rt)?);
             watched.settle(rt, upto)?;
             if pick % 2 == 0 {
                 low = upto;

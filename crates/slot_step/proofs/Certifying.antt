@@ -20,7 +20,7 @@ use Rattle.slot_step.proofs.Weaving.{lefts, lefts_length, number_suc}
 use Rattle.slot_step.proofs.Batching.{least_of_both, pairing_of_both, wove}
 use Rattle.slot_step.proofs.Tables.{in_two, none_gated, rested, plots_differ}
 
-pub gated_not : {T P : Type 0} (gate : T → P → Option ℕ) (ts : List T) (ps : List P) (t : T) (p : P) → GateNone gate ts ps → Contains ts t → Contains ps p → IsSome (gate t p) → ⊥
+gated_not : {T P : Type 0} (gate : T → P → Option ℕ) (ts : List T) (ps : List P) (t : T) (p : P) → GateNone gate ts ps → Contains ts t → Contains ps p → IsSome (gate t p) → ⊥
 gated_not gate ts ps t p h c d s = let e : gate t p ≡ None = all_contains (λ q. gate t q ≡ None) p ps (all_contains (λ u. AllByRecursion (λ q. gate u q ≡ None) ps) t ts h c) d in let z = subst IsSome e s in cc
 
 pub some_is : (x : Option ℕ) (c : ℕ) → x ≡ Some c → IsSome x
@@ -59,12 +59,12 @@ zip_weaker Q R f (x ∷ xs) (y ∷ ys) h = (f x y h.0, zip_weaker Q R f xs ys h.
 
 module _ {T P K : Type 0} (k : Tracking T P) (o : Ordered T P K) (l : OrderLaws k o) where
   -- a walk over both stays with the plots that it began with
-  pub walk_up : (us vs ws : List T) → Interleaved us vs ws → (xs ys zs : List P) → Interleaved xs ys zs → (p : P) (over : List P) (q : P) → IsGateWalk k.gate us xs p over q → IsGateWalk k.gate ws zs p over q
+  walk_up : (us vs ws : List T) → Interleaved us vs ws → (xs ys zs : List P) → Interleaved xs ys zs → (p : P) (over : List P) (q : P) → IsGateWalk k.gate us xs p over q → IsGateWalk k.gate ws zs p over q
   walk_up us vs ws m xs ys zs n p [] q w = w
   walk_up us vs ws m xs ys zs n p (r ∷ over) q w =
       (in_both r xs ys zs n w.0, record { track = w.1.track; known = in_both w.1.track us vs ws m w.1.known; one = w.1.one; other = w.1.other }, walk_up us vs ws m xs ys zs n r over q w.2)
 
-  pub walk_down : (us vs ws : List T) → Interleaved us vs ws → (xs ys zs : List P) → Interleaved xs ys zs → GateNone k.gate us ys → GateNone k.gate vs xs → (p : P) (over : List P) (q : P) → Contains xs p → IsGateWalk k.gate ws zs p over q → IsGateWalk k.gate us xs p over q × Contains xs q
+  walk_down : (us vs ws : List T) → Interleaved us vs ws → (xs ys zs : List P) → Interleaved xs ys zs → GateNone k.gate us ys → GateNone k.gate vs xs → (p : P) (over : List P) (q : P) → Contains xs p → IsGateWalk k.gate ws zs p over q → IsGateWalk k.gate us xs p over q × Contains xs q
   walk_down us vs ws m xs ys zs n hu hv p [] q c w = (w, subst (Contains xs) w c)
   walk_down us vs ws m xs ys zs n hu hv p (r ∷ over) q c w = elim (in_one w.1.track us vs ws m w.1.known) [
     | inl u ↦ elim (in_one r xs ys zs n w.0) [
@@ -124,13 +124,13 @@ module _ {T P K : Type 0} (k : Tracking T P) (o : Ordered T P K) (l : OrderLaws 
         proves = h.proves;
       }
 
-  abbrev pub by_first : Certificate P K → Certificate P K → Ordering
+  abbrev by_first : Certificate P K → Certificate P K → Ordering
   by_first c d = o.cmp (o.key c.first) (o.key d.first)
 
   by_first_total : IsTotalOrder by_first
   by_first_total = on_total (λ (c : Certificate P K). o.key c.first) l.total
 
-  pub first_own : (s : List T) (n : ℕ) (xs : List P) (cs : List (Certificate P K)) → AreCertificates k o s n xs cs → (c : Certificate P K) → Contains cs c → Contains xs c.first
+  first_own : (s : List T) (n : ℕ) (xs : List P) (cs : List (Certificate P K)) → AreCertificates k o s n xs cs → (c : Certificate P K) → Contains cs c → Contains xs c.first
   first_own s n xs cs a c d =
       in_filter (λ p. eqb (plot_radar o p) (plot_radar o c.first)) c.first xs (((all_contains (IsCertificateIn k o s n xs) c cs a.each d).plots_are c.first).0 (contains_first c.first c.first c.rest refl)).known
 

@@ -4,8 +4,6 @@ pub mod Weaving
 pub mod Batching
 pub mod Tables
 pub mod Certifying
-pub mod Separating
-pub mod Apart
 pub mod Many
 pub mod Numbering
 pub mod Keyed

@@ -17,7 +17,7 @@ use Rattle.slot_step.proofs.Interleavings.{swapped, two_first, both_filter, all_
 use Rattle.slot_step.proofs.Merging.{merged_is}
 use Rattle.slot_step.proofs.Batching.{tables_mix, batch_of_none}
 
-pub not_some : {P : Type 0} (x : Option P) → (IsSome x → ⊥) → x ≡ None
+not_some : {P : Type 0} (x : Option P) → (IsSome x → ⊥) → x ≡ None
 not_some None n = refl
 not_some (Some p) n = absurd (n refl)
 
@@ -168,7 +168,7 @@ module _ {T P K : Type 0} (k : Tracking T P) (o : Ordered T P K) (l : OrderLaws 
       let a : IsAtBatch (batch_table k o ts n ps radar_limit) n radar_limit = tables_at (unexpired o n ts) ps n (start_at ts n b) h up radar_limit in
       record { table = a.table; births = all_weaker (Earlier n radar_limit) (λ t. o.slot (o.birth t) < n + 1) _ (λ t e. elim e [ inl u ↦ omega (arith, u) | inr u ↦ omega (arith, u.0) ]) a.births }
 
-  pub tables_all : (Q : K → Type 0) (ts : List T) (ps : List P) → AllByRecursion (λ t. Q (o.birth t)) ts → AllByRecursion (λ p. Q (o.key p)) ps → (r : ℕ) → AllByRecursion (λ t. Q (o.birth t)) (table_at k (plot_radar o) ts ps r)
+  tables_all : (Q : K → Type 0) (ts : List T) (ps : List P) → AllByRecursion (λ t. Q (o.birth t)) ts → AllByRecursion (λ p. Q (o.key p)) ps → (r : ℕ) → AllByRecursion (λ t. Q (o.birth t)) (table_at k (plot_radar o) ts ps r)
   unfolding table_at batch_step
   tables_all Q ts ps h g zero = h
   tables_all Q ts ps h g (suc r) =

@@ -4,7 +4,6 @@ pub mod Slots
 pub mod Numbers
 pub mod Certificates
 pub mod Parts
-pub mod PartCertificates
 pub mod Keyed
 pub mod Problems
 pub mod Components

@@ -18,7 +18,6 @@ ghost use Rattle.slot_step.specs.Components.{edge_pairs, IsSolved};
 ghost use Rattle.slot_step.specs.Tracker.{tracking, ordered, numbering};
 ghost use Rattle.slot_step.specs.Numbers.{Numbering, NumberLaws, numbered, slot_step, without_numbers};
 ghost use Rattle.slot_step.specs.Certificates.{Certificate, AreCertificates, AreCertificatesOf, AreCertificatesBelow};
-ghost use Rattle.slot_step.specs.PartCertificates.{certificates_without, KeepsApart};
 ghost use Rattle.slot_step.specs.Parts.{merged, merged_certificates, AreBeside, DontCross, AreTwoParts, Part, all_merged, all_certificates, AreParts};
 
 /// A batch without plots changes nothing.
@@ -117,22 +116,6 @@ pub fn run_in_parts<T, P, K>()
         → AreCertificates k o (all_merged o part.tracks (map (λ p. p.tracks) parts)) slot all (all_certificates o cs css) }
     ensures gates { (k : Tracking T P) (o : Ordered T P K) → OrderLaws k o → (slot : ℕ) (part : Part T P) (parts : List (Part T P)) (all : List P) (p : P) → AreParts k o slot (part ∷ parts) all
         → IsGated k o (all_merged o part.tracks (map (λ p. p.tracks) parts)) slot all p → (q : Part T P) × Contains (part ∷ parts) q × IsGated k o q.tracks slot q.plots p }
-{}
-
-/// Where two parts of a slot don't cross, those certificates of both whose least plot is none of the
-/// one part's are the certificates of the other; where the one part has no plots, they are all.
-pub fn part_certificates<T, P, K>()
-    ensures others { (k : Tracking T P) (o : Ordered T P K) → OrderLaws k o → (one other : List T) (slot : ℕ) (plots others all : List P) → AreTwoParts o slot one other plots others all → DontCross k o slot one other plots others
-        → (cs : List (Certificate P K)) → AreCertificates k o (merged o one other) slot all cs → AreCertificates k o other slot others (certificates_without o plots cs) }
-    ensures all { (k : Tracking T P) (o : Ordered T P K) → OrderLaws k o → (one other : List T) (slot : ℕ) (plots : List P) → AreTwoParts o slot one other [] plots plots → DontCross k o slot one other [] plots
-        → (cs : List (Certificate P K)) → AreCertificates k o (merged o one other) slot plots cs → AreCertificates k o other slot plots cs }
-{}
-
-/// Two parts of a slot don't cross where no certificate of both has a plot of the one beside a track
-/// of the other.
-pub fn kept_apart<T, P, K>()
-    ensures { (k : Tracking T P) (o : Ordered T P K) → OrderLaws k o → (one other : List T) (slot : ℕ) (plots others all : List P) → AreTwoParts o slot one other plots others all
-        → (cs : List (Certificate P K)) → AreCertificates k o (merged o one other) slot all cs → AllByRecursion (KeepsApart o one other plots others) cs → DontCross k o slot one other plots others }
 {}
 
 /// A slot without plots is expiry alone. A table that took one steps, certifies and gates in a later

@@ -4,7 +4,7 @@ use Rattle.std.specs.Prelude.{Contains, IfOk, Result, Ok, Err, ◌&&◌, ◌||�
 use Rattle.std.specs.List.{AllByRecursion}
 use Rattle.late_window.specs.Folding.{BeforeFirst}
 use Rattle.late_window.proofs.Groups.{SlotsRise, drop_all}
-use Rattle.late_window.specs.Interleavings.{EachPair}
+use Rattle.span_clusters.specs.Interleavings.{EachPair}
 use Rattle.span_clusters.specs.Parts.{Part, IsSplitting, numbered}
 use Rattle.span_clusters.specs.Jobs.{NumbersDiffer, AreUsed, IsPartition, part_numbers}
 use Rattle.span_clusters.proofs.Numbered.{splitting}

@@ -3,8 +3,8 @@ use Rattle.std.proofs.Common.{◌≡◌, refl, sym, subst, ℕ, ◌+◌, ◌*◌
 use Rattle.std.specs.List.{AllByRecursion}
 use Rattle.std.proofs.lemmas.Bool.{eqb-true, eq-eqb, cond_both}
 use Rattle.late_window.specs.Folding.{with_slot, slots}
-use Rattle.late_window.specs.Interleavings.{Interleaved, AllInterleaved}
-use Rattle.late_window.specs.Interleavings.Interleaved.{neither, first, second}
+use Rattle.span_clusters.specs.Interleavings.{Interleaved, AllInterleaved}
+use Rattle.span_clusters.specs.Interleavings.Interleaved.{neither, first, second}
 use Rattle.span_clusters.specs.Parts.{Part, all_items}
 use Rattle.span_clusters.specs.Jobs.{filled_slots}
 use Rattle.span_clusters.proofs.Interleavings.{swapped}

@@ -3,8 +3,8 @@ use Rattle.std.proofs.Common.{ℕ, ◌≤◌, List}
 use Rattle.std.specs.List.{AllByRecursion}
 use Rattle.late_window.specs.Folding.{BeforeFirst}
 use Rattle.late_window.proofs.Groups.{SlotsRise}
-use Rattle.late_window.specs.Interleavings.{Interleaved}
-use Rattle.late_window.specs.Interleavings.Interleaved.{neither, first, second}
+use Rattle.span_clusters.specs.Interleavings.{Interleaved}
+use Rattle.span_clusters.specs.Interleavings.Interleaved.{neither, first, second}
 
 pub first_of_both : {S I : Type 0} (slot : I → ℕ) (is_before : S → ℕ → Type 0) (is_beside : S → S → Type 0) (merged : S → S → S)
     → ((s : S) (a b : ℕ) → a ≤ b → is_before s a → is_before s b) → ((s t : S) (n : ℕ) → is_beside s t → is_before s n → is_before t n → is_before (merged s t) n)

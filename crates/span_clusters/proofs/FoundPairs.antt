@@ -11,8 +11,8 @@ use Rattle.std.specs.declared.cmp.Ordering.{Ordering}
 use Rattle.std.specs.declared.cmp.Ordering.TheVariants.{Less, Equal, Greater}
 use Rattle.std.proofs.lemmas.Map.Lookups.{exact_pairs, exact_unsigned}
 use Rattle.std.proofs.Math.Nat.{min_comm, max_comm}
-use Rattle.late_window.specs.Interleavings.{Interleaved, AllInterleaved, IsWithin, EachPair, KeysDiffer}
-use Rattle.late_window.specs.Interleavings.Interleaved.{neither, first, second}
+use Rattle.span_clusters.specs.Interleavings.{Interleaved, AllInterleaved, IsWithin, EachPair, KeysDiffer}
+use Rattle.span_clusters.specs.Interleavings.Interleaved.{neither, first, second}
 use Rattle.span_clusters.specs.Parts.{Part, ReachesItems, ReachesPart, Cross, all_items}
 use Rattle.span_clusters.specs.Jobs.{NumbersDiffer, AreBeforeBoth, CrossWith, CrossAs, ReachesAs, ReachesOneAs, pair_cmp}
 use Rattle.span_clusters.proofs.Interleavings.{swapped, last_two_first, contains_cons, contains_first, contains_later, in_one, in_both, in_filter, kept_passes, passing_kept}

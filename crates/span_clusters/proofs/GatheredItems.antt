@@ -7,8 +7,8 @@ use Rattle.std.specs.Ordering.{ordering_reverse}
 use Rattle.std.specs.declared.cmp.Ordering.{Ordering}
 use Rattle.std.specs.declared.cmp.Ordering.TheVariants.{Less, Greater}
 use Rattle.late_window.specs.Folding.{ComesBefore, Rises}
-use Rattle.late_window.specs.Interleavings.{Interleaved, AllInterleaved, IsWithin, IsBelowFirst, EachPair, KeysDiffer}
-use Rattle.late_window.specs.Interleavings.Interleaved.{first, second}
+use Rattle.span_clusters.specs.Interleavings.{Interleaved, AllInterleaved, IsWithin, IsBelowFirst, EachPair, KeysDiffer}
+use Rattle.span_clusters.specs.Interleavings.Interleaved.{first, second}
 use Rattle.span_clusters.specs.Parts.{Part, all_items}
 use Rattle.span_clusters.proofs.Interleavings.{swapped, alone, none_of_none, last_two_first, none_behind, in_one, in_both, all_contains, contains_first}
 use Rattle.span_clusters.proofs.PickedItems.{cut_first}

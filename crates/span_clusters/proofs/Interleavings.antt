@@ -5,8 +5,8 @@ use Rattle.std.specs.List.{AllByRecursion}
 use Rattle.std.specs.declared.cmp.Ordering.{Ordering}
 use Rattle.std.proofs.lemmas.Bool.{eqb-true, cond_both}
 use Rattle.late_window.specs.Folding.{ComesBefore, Rises, InSlot, at_slot}
-use Rattle.late_window.specs.Interleavings.{Interleaved, AllInterleaved, EachPair, KeysDiffer}
-use Rattle.late_window.specs.Interleavings.Interleaved.{neither, first, second}
+use Rattle.span_clusters.specs.Interleavings.{Interleaved, AllInterleaved, EachPair, KeysDiffer}
+use Rattle.span_clusters.specs.Interleavings.Interleaved.{neither, first, second}
 
 module _ {X : Type 0} where
   pub both_filter : (f : X → Bool) (xs ys zs : List X) → Interleaved xs ys zs → Interleaved (filter f xs) (filter f ys) (filter f zs)

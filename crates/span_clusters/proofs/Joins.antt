@@ -7,9 +7,9 @@ use Rattle.std.specs.declared.cmp.Ordering.TheVariants.{Less, Greater}
 use Rattle.std.specs.Ordering.{ordering_reverse}
 use Rattle.std.specs.Cmp.{IsTotalOrder}
 use Rattle.late_window.specs.Folding.{Rises, ComesBefore}
-use Rattle.late_window.specs.Interleavings.{Interleaved, AllInterleaved, EachPair}
+use Rattle.span_clusters.specs.Interleavings.{Interleaved, AllInterleaved, EachPair}
 use Rattle.span_clusters.specs.Parts.{Part, IsSplitting, starts, all_items, Without, joined}
-use Rattle.late_window.specs.Interleavings.Interleaved.{neither, first, second}
+use Rattle.span_clusters.specs.Interleavings.Interleaved.{neither, first, second}
 use Rattle.span_clusters.proofs.Interleavings.{swapped, two_first, first_rises, contains_first, all_contains, in_both}
 use Rattle.span_clusters.proofs.Separating.{Separating, SeparatingLaws}
 

@@ -7,8 +7,8 @@ use Rattle.std.specs.Ordering.{ordering_reverse}
 use Rattle.std.specs.declared.cmp.Ordering.{Ordering}
 use Rattle.std.specs.declared.cmp.Ordering.TheVariants.{Less, Equal, Greater}
 use Rattle.late_window.specs.Folding.{Rises, ComesBefore}
-use Rattle.late_window.specs.Interleavings.{Interleaved, KeysDiffer}
-use Rattle.late_window.specs.Interleavings.Interleaved.{neither, first, second}
+use Rattle.span_clusters.specs.Interleavings.{Interleaved, KeysDiffer}
+use Rattle.span_clusters.specs.Interleavings.Interleaved.{neither, first, second}
 use Rattle.span_clusters.proofs.Interleavings.{contains_first, contains_later, all_contains}
 
 pub all_second : {X : Type 0} (ys : List X) → Interleaved [] ys ys

@@ -3,9 +3,9 @@ use Rattle.std.proofs.Common.{◌≡◌, ◌≢◌, ◌∙◌, ap, sym, refl, �
 use Rattle.std.specs.Prelude.{Contains, fold, ◌&&◌, ◌||◌}
 use Rattle.std.specs.List.{AllByRecursion}
 use Rattle.std.proofs.lemmas.Bool.{eqb-true, cond_both, eq-eqb}
-use Rattle.late_window.specs.Interleavings.{Interleaved, AllInterleaved, EachPair}
+use Rattle.span_clusters.specs.Interleavings.{Interleaved, AllInterleaved, EachPair}
 use Rattle.span_clusters.specs.Parts.{Part, IsSplitting, starts, all_items, picked_items, numbered}
-use Rattle.late_window.specs.Interleavings.Interleaved.{neither, first, second}
+use Rattle.span_clusters.specs.Interleavings.Interleaved.{neither, first, second}
 use Rattle.span_clusters.proofs.Interleavings.{last_two_first, none_behind, contains_cons}
 use Rattle.span_clusters.proofs.OneSlot.{all_weaker}
 

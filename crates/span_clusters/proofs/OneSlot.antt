@@ -3,7 +3,7 @@ use Rattle.std.proofs.Common.{◌≡◌, ◌∙◌, ap, sym, refl, ℕ, ◌<◌,
 use Rattle.std.specs.Prelude.{fold}
 use Rattle.std.specs.List.{AllByRecursion}
 use Rattle.late_window.specs.Folding.{Rises, InSlot}
-use Rattle.late_window.specs.Interleavings.{Interleaved, AllInterleaved, EachPair, IsJoin}
+use Rattle.span_clusters.specs.Interleavings.{Interleaved, AllInterleaved, EachPair, IsJoin}
 use Rattle.span_clusters.specs.Parts.{AreApart, Part, joined, starts, all_items, OutsBegin}
 use Rattle.span_clusters.proofs.Interleavings.{swapped, alone, both_length, all_of_first, in_one, two_first, first_rises}
 use Rattle.span_clusters.proofs.Separating.{Separating, SeparatingLaws, TwoInSlot}

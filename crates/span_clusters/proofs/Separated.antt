@@ -3,7 +3,7 @@ use Rattle.std.proofs.Common.{◌≡◌, ℕ, ◌≤◌, List, [], ◌∷◌}
 use Rattle.std.specs.List.{AllByRecursion}
 use Rattle.std.specs.declared.cmp.Ordering.{Ordering}
 use Rattle.late_window.specs.Folding.{Rises}
-use Rattle.late_window.specs.Interleavings.{Interleaved, AllInterleaved, EachPair, KeysDiffer}
+use Rattle.span_clusters.specs.Interleavings.{Interleaved, AllInterleaved, EachPair, KeysDiffer}
 use Rattle.span_clusters.specs.Parts.{Part, IsSplitting, all_items}
 use Rattle.span_clusters.specs.Jobs.{NumbersDiffer, AreBeforeBoth, AreParts}
 use Rattle.span_clusters.proofs.Interleavings.{swapped, all_of_first, all_keys_differ}

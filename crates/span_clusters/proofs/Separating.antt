@@ -3,7 +3,7 @@ use Rattle.std.proofs.Common.{◌≡◌, ℕ, ◌+◌, ◌<◌, ◌≤◌, List,
 use Rattle.std.specs.Prelude.{◌⊎◌}
 use Rattle.std.specs.declared.cmp.Ordering.{Ordering}
 use Rattle.late_window.specs.Folding.{Rises, InSlot}
-use Rattle.late_window.specs.Interleavings.{KeysDiffer}
+use Rattle.span_clusters.specs.Interleavings.{KeysDiffer}
 use Rattle.span_clusters.specs.Parts.{AreTwoInSlot, AreApart}
 
 pub record Separating (S I K O : Type 0) : Type 1 where

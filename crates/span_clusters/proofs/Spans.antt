@@ -4,7 +4,7 @@ use Rattle.std.specs.Prelude.{fold}
 use Rattle.std.specs.List.{AllByRecursion}
 use Rattle.std.proofs.lemmas.Bool.{eqb-true, cond_both}
 use Rattle.late_window.specs.Folding.{Rises, at_slot, before, after}
-use Rattle.late_window.specs.Interleavings.{AllInterleaved, EachPair, KeysDiffer, IsJoin}
+use Rattle.span_clusters.specs.Interleavings.{AllInterleaved, EachPair, KeysDiffer, IsJoin}
 use Rattle.span_clusters.specs.Parts.{IsFilled, Part, DontCross, IsSplitting, starts, all_items, states_after, OutsBegin, AreOutsAt}
 use Rattle.span_clusters.proofs.Interleavings.{both_filter, both_length, at_in_slot, rises_filter, all_keys_differ, all_filtered, each_rises, in_filter}
 use Rattle.span_clusters.proofs.Separating.{Separating, SeparatingLaws}

@@ -4,7 +4,7 @@ use Rattle.std.specs.Prelude.{◌⊎◌, ◌||◌, Contains, All}
 use Rattle.std.specs.List.{AllByRecursion, list_any}
 use Rattle.std.proofs.lemmas.Bool.{eq-eqb, cases_lt}
 use Rattle.std.proofs.lemmas.List.Elements.{All-contains}
-use Rattle.late_window.specs.Interleavings.{EachPair}
+use Rattle.span_clusters.specs.Interleavings.{EachPair}
 use Rattle.span_clusters.specs.Jobs.{AreUsed}
 use Rattle.span_clusters.proofs.Interleavings.{contains_first, contains_later, contains_cons, contains_left, contains_end}
 

@@ -4,7 +4,7 @@ use Rattle.std.specs.List.{AllByRecursion}
 use Rattle.std.specs.declared.cmp.Ordering.{Ordering}
 use Rattle.std.specs.Ordering.{nat_cmp, ordering_then}
 use Rattle.late_window.specs.Folding.{Rises, BeforeFirst, slots, states, AreOutsOf}
-use Rattle.late_window.specs.Interleavings.{KeysDiffer, EachPair}
+use Rattle.span_clusters.specs.Interleavings.{KeysDiffer, EachPair}
 use Rattle.span_clusters.specs.Parts.{Part, Cross, ReachesPart, numbered}
 
 -- the part may be run

@@ -1,3 +1,4 @@
+pub mod Interleavings
 pub mod Parts
 pub mod Jobs
 pub mod Runs

@@ -3,7 +3,7 @@ use Rattle.std.specs.Prelude.{◌≡◌, ◌<◌, ◌⊎◌, ◌==◌, if◌then
 use Rattle.std.specs.List.{AllByRecursion}
 use Rattle.std.specs.declared.cmp.Ordering.{Ordering}
 use Rattle.late_window.specs.Folding.{Rises, InSlot, at_slot, before, after}
-use Rattle.late_window.specs.Interleavings.{Interleaved, AllInterleaved, EachPair, IsJoin}
+use Rattle.span_clusters.specs.Interleavings.{Interleaved, AllInterleaved, EachPair, IsJoin}
 
 -- a part of a span: its number, its members before the span, and its items
 pub record Part (S I : Type 0) : Type 0 where

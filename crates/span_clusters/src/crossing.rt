@@ -4,7 +4,7 @@ ghost use Rattle.std.specs.List.Sorted.{IsStrictlySortedBy};
 ghost use Rattle.std.specs.List.{AllByRecursion};
 ghost use Rattle.std.specs.BTreeSet.{contains};
 ghost use Rattle.late_window.specs.Folding.{Rises, BeforeFirst, states};
-ghost use Rattle.late_window.specs.Interleavings.{EachPair, Interleaved, AllInterleaved, IsWithin, IsBelowFirst, KeysDiffer};
+ghost use Rattle.span_clusters.specs.Interleavings.{EachPair, Interleaved, AllInterleaved, IsWithin, IsBelowFirst, KeysDiffer};
 ghost use Rattle.span_clusters.specs.Parts.{ReachesItems, ReachesPart, all_items};
 ghost use Rattle.span_clusters.specs.Jobs.{AreParts, ReachesAs, ReachesOneAs, CrossAs, pair_cmp};
 
@@ -90,8 +90,8 @@ fn is_below_first<F: Fold>(item: &F::Item, items: &[F::Item]) -> bool
     items.is_empty() || *item < items[0]
 }
 
-/// The items that aren't among the own ones, in their order.
-pub fn items_without<F: Fold>(
+// The items that aren't among the own ones.
+fn items_without<F: Fold>(
     alloc: Global,
     all: &[F::Item],
     own: &[F::Item],

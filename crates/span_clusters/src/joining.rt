@@ -2,7 +2,7 @@
 ghost use Rattle.std.specs.Prelude.{◌≡◌, ◌≢◌, ◌+◌, ◌++◌, length, IfOk, OnErr, min};
 ghost use Rattle.std.specs.List.{AllByRecursion};
 ghost use Rattle.late_window.specs.Folding.{Rises, slots};
-ghost use Rattle.late_window.specs.Interleavings.{Interleaved, KeysDiffer};
+ghost use Rattle.span_clusters.specs.Interleavings.{Interleaved, KeysDiffer};
 
 use crate::jobs::charged;
 use crate::{Done, Job, Separable};

@@ -2,7 +2,7 @@
 ghost use Rattle.std.specs.Prelude.{◌≡◌, ◌≢◌, ◌≤◌, ◌+◌, ◌*◌, ℕ, List, ◌∷◌, length, map, Contains};
 ghost use Rattle.std.specs.List.{AllByRecursion};
 ghost use Rattle.late_window.specs.Folding.{Rises, at_slot, slots, before, after};
-ghost use Rattle.late_window.specs.Interleavings.{Interleaved, EachPair, IsJoin};
+ghost use Rattle.span_clusters.specs.Interleavings.{Interleaved, EachPair, IsJoin};
 ghost use Rattle.span_clusters.specs.Parts.{Part, DontCross, IsSplitting, IsFilled, states_after, AreOutsAt, numbered, Without, joined};
 ghost use Rattle.span_clusters.specs.Jobs.{NumbersDiffer, AreParts, filled_slots};
 

@@ -10,7 +10,7 @@ mod parting;
 mod separable;
 mod walking;
 
-pub use crossing::{crossings, items_without};
+pub use crossing::crossings;
 pub use jobs::{Done, Job};
 pub use joining::join_parts;
 pub use laws::{few_slots, joined_parts, merged_parts, numbered_parts, splitting_parts};

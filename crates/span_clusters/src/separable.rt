@@ -2,7 +2,7 @@
 ghost use Rattle.std.specs.Prelude.{◌≡◌, ◌<◌, ◌≤◌, ◌+◌, ◌↔◌, ◌⊎◌, ◌||◌, ◌&&◌, ◌==◌, ℕ, List, [], Bool, true, false, length, IfOk, IsTrue, All};
 ghost use Rattle.std.specs.List.{AllByRecursion};
 ghost use Rattle.late_window.specs.Folding.{Rises, InSlot};
-ghost use Rattle.late_window.specs.Interleavings.{KeysDiffer, IsJoin};
+ghost use Rattle.span_clusters.specs.Interleavings.{KeysDiffer, IsJoin};
 ghost use Rattle.span_clusters.specs.Parts.{Reaches, AreTwoInSlot, AreApart};
 
 use late_window::Fold;

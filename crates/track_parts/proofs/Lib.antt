@@ -4,6 +4,3 @@ pub mod Stepping
 pub mod Unread
 pub mod Runs
 pub mod Renumbered
-pub mod LeftTracks
-pub mod Walked
-pub mod KeptApart

@@ -2,7 +2,6 @@
 use Rattle.std.proofs.Common.{◌≡◌, ◌∙◌, ap, sym, refl, ℕ, zero, suc, ◌+◌, ◌≤◌, List, [], ◌∷◌, ◌++◌, length, take, drop, map, None, arith, append-nil, append_assoc, length-append, subst}
 use Rattle.std.specs.List.{AllByRecursion}
 use Rattle.std.specs.List.Sorted.{IsStrictlySortedBy}
-use Rattle.std.specs.declared.cmp.Ordering.TheVariants.{Less}
 use Rattle.trk_base.specs.Keys.{key_cmp}
 use Rattle.plot_geometry.specs.Plots.{PlanePlot}
 use Rattle.plot_geometry.specs.PlotOrder.{plot_cmp}
@@ -11,22 +10,25 @@ use Rattle.track_life.specs.Tracks.{TrackState}
 use Rattle.track_life.specs.Tables.{IsTable}
 use Rattle.track_life.specs.Numbers.{with_number, assigned}
 use Rattle.track_life.proofs.Numbering.{bare_assigned}
-use Rattle.late_window.specs.Folding.{Rises, at_slot, stepped, before, after, slots, states, latest, group_count, BeforeFirst, OutsAt, AreOutsOf}
+use Rattle.late_window.specs.Folding.{Rises, at_slot, stepped, before, slots, states, latest, group_count, BeforeFirst, OutsAt}
 use Rattle.late_window.proofs.Groups.{SlotsRise, begins, drop_rises, group_some, slots_rise, states_group}
 use Rattle.late_window.proofs.Latest.{latest_append}
 use Rattle.slot_step.specs.declared.certs.KeyedCert.{KeyedCert}
 use Rattle.slot_step.specs.Numbers.{NumberLaws, numbered}
 use Rattle.slot_step.specs.Told.{AreTold}
-use Rattle.slot_step.specs.Calls.{IsFromBefore}
 use Rattle.slot_step.specs.Tracker.{tracking, ordered, numbering, run_tracks, step_tracks}
-use Rattle.slot_step.proofs.Numbering.{numbers_anew, numbers_hidden, run_bare, run_unread}
+use Rattle.slot_step.proofs.Numbering.{numbers_anew, numbers_hidden, run_unread}
 use Rattle.slot_step.proofs.Slotted.{sorted_of_map}
 use Rattle.slot_step.proofs.Tracker.{tracks_ordered, tracks_numbered}
 use Rattle.track_parts.specs.Members.{Tracks}
 use Rattle.track_parts.specs.Laws.{in_order}
 use Rattle.track_parts.specs.Tracking.{next, slot_of_plot, key_of_plot, by_birth, AreCertified, IsBefore}
-use Rattle.track_parts.specs.Numbered.{living, without_numbers, AreWhole}
+use Rattle.track_parts.specs.Numbered.{living, AreWhole}
 use Rattle.track_parts.proofs.Unread.{told_too}
+
+-- without their numbers
+abbrev pub bare : List TrackState → List TrackState
+bare ts = map (with_number None) ts
 
 -- the table of a run with numbers, of which the table before it has some
 abbrev pub with_numbers : List TrackState → Tracks → List TrackState
@@ -42,39 +44,24 @@ parts_length zero xs = omega arith
 parts_length (suc i) [] = omega arith
 parts_length (suc i) (x ∷ xs) = omega (arith, parts_length i xs)
 
--- what has no numbers has none left
-pub bare_twice : (ts : List TrackState) → without_numbers (without_numbers ts) ≡ without_numbers ts
-bare_twice [] = refl
-bare_twice (t ∷ ts) = λ i. with_number None t ∷ bare_twice ts i
-
--- what holds whatever the number still holds
-bare_all : (Q : TrackState → Type 0) → ((t : TrackState) → Q t → Q (with_number None t)) → (ts : List TrackState) → AllByRecursion Q ts → AllByRecursion Q (without_numbers ts)
-bare_all Q f [] h = tt
-bare_all Q f (t ∷ ts) h = (f t h.0, bare_all Q f ts h.1)
-
-bare_rises : (ts : List TrackState) → IsStrictlySortedBy by_birth ts → IsStrictlySortedBy by_birth (without_numbers ts)
-unfolding IsStrictlySortedBy
-bare_rises [] h = h
-bare_rises (t ∷ ts) h = (bare_all (λ u. by_birth t u ≡ Less) (λ u less. less) ts h.0, bare_rises ts h.1)
-
 module _ (life : LifeSettings) where
   laws : NumberLaws (tracking life) (ordered life) (numbering assigned)
   laws = tracks_numbered life assigned bare_assigned
 
   -- a step with numbers leaves a table that differs in numbers alone
-  step_hidden : (s t : List TrackState) (n : ℕ) (ps : List PlanePlot) → without_numbers s ≡ without_numbers t → without_numbers (step_tracks life s n ps) ≡ without_numbers (run_tracks life t n ps)
+  step_hidden : (s t : List TrackState) (n : ℕ) (ps : List PlanePlot) → bare s ≡ bare t → bare (step_tracks life s n ps) ≡ bare (run_tracks life t n ps)
   step_hidden s t n ps e =
       numbers_hidden (tracking life) (ordered life) (tracks_ordered life) (numbering assigned) laws s (run_tracks life s n ps)
       ∙ run_unread (tracking life) (ordered life) (tracks_ordered life) (numbering assigned) laws s t n ps e
 
   -- and is the run without them, with those of the table before
-  same_step : (s t : List TrackState) (n : ℕ) (ps : List PlanePlot) → without_numbers s ≡ without_numbers t → with_numbers s (living life (run_tracks life t n ps)) ≡ step_tracks life s n ps
+  same_step : (s t : List TrackState) (n : ℕ) (ps : List PlanePlot) → bare s ≡ bare t → with_numbers s (living life (run_tracks life t n ps)) ≡ step_tracks life s n ps
   same_step s t n ps e =
       numbers_anew (tracking life) (ordered life) (tracks_ordered life) (numbering assigned) laws s (run_tracks life t n ps) (run_tracks life s n ps)
       (run_unread (tracking life) (ordered life) (tracks_ordered life) (numbering assigned) laws t s n ps (sym e))
 
   -- numbers given one table after the other, slot by slot
-  by_slots : (fuel : ℕ) (s t : List TrackState) (xs : List PlanePlot) → length xs ≤ fuel → Rises plot_cmp key_of_plot xs → without_numbers s ≡ without_numbers t
+  by_slots : (fuel : ℕ) (s t : List TrackState) (xs : List PlanePlot) → length xs ≤ fuel → Rises plot_cmp key_of_plot xs → bare s ≡ bare t
       → numbered_runs s (states next slot_of_plot (living life t) xs) ≡ states (step_tracks life) slot_of_plot s xs
   unfolding slots
   by_slots fuel s t [] le r e = refl
@@ -92,10 +79,8 @@ module _ (life : LifeSettings) where
       (by_slots fuel (step_tracks life s n own) (run_tracks life t n own) others fewer (drop_rises plot_cmp key_of_plot k (x ∷ xs) r) (step_hidden s t n own e))
       ∙ sym (states_group slot_of_plot (step_tracks life) (AreTold life) s n (x ∷ xs) (begins slot_of_plot (step_tracks life) (AreTold life) s n (x ∷ xs) rise refl))
 
-  -- the run begins with a table that differs in numbers alone
-  numbered_states : (s t : List TrackState) → without_numbers s ≡ without_numbers t → (xs : List PlanePlot) → Rises plot_cmp key_of_plot xs
-      → numbered_runs s (states next slot_of_plot (living life t) xs) ≡ states (step_tracks life) slot_of_plot s xs
-  numbered_states s t e xs r = by_slots (length xs) s t xs (omega arith) r e
+  pub numbered_states : (s : List TrackState) (xs : List PlanePlot) → Rises plot_cmp key_of_plot xs → numbered_runs s (states next slot_of_plot (living life s) xs) ≡ states (step_tracks life) slot_of_plot s xs
+  numbered_states s xs r = by_slots (length xs) s s xs (omega arith) r refl
 
   -- ---- certificates
 
@@ -109,111 +94,39 @@ module _ (life : LifeSettings) where
   before_living s xs zero = refl
   before_living s xs (suc n) = ap (λ t. stepped next t n (at_slot slot_of_plot n xs)) (before_living s xs n) ∙ stepped_living (before (run_tracks life) slot_of_plot s xs n) n (at_slot slot_of_plot n xs)
 
-  stepped_hidden : (s t : List TrackState) (n : ℕ) (ps : List PlanePlot) → without_numbers s ≡ without_numbers t → without_numbers (stepped (step_tracks life) s n ps) ≡ without_numbers (stepped (run_tracks life) t n ps)
+  stepped_hidden : (s t : List TrackState) (n : ℕ) (ps : List PlanePlot) → bare s ≡ bare t → bare (stepped (step_tracks life) s n ps) ≡ bare (stepped (run_tracks life) t n ps)
   stepped_hidden s t n [] e = e
   stepped_hidden s t n (p ∷ ps) e = step_hidden s t n (p ∷ ps) e
 
-  before_hidden : (s t : List TrackState) → without_numbers s ≡ without_numbers t → (xs : List PlanePlot) (n : ℕ) → without_numbers (before (step_tracks life) slot_of_plot s xs n) ≡ without_numbers (before (run_tracks life) slot_of_plot t xs n)
+  before_hidden : (s : List TrackState) (xs : List PlanePlot) (n : ℕ) → bare (before (step_tracks life) slot_of_plot s xs n) ≡ bare (before (run_tracks life) slot_of_plot s xs n)
   unfolding before
-  before_hidden s t e xs zero = e
-  before_hidden s t e xs (suc n) = stepped_hidden (before (step_tracks life) slot_of_plot s xs n) (before (run_tracks life) slot_of_plot t xs n) n (at_slot slot_of_plot n xs) (before_hidden s t e xs n)
+  before_hidden s xs zero = refl
+  before_hidden s xs (suc n) = stepped_hidden (before (step_tracks life) slot_of_plot s xs n) (before (run_tracks life) slot_of_plot s xs n) n (at_slot slot_of_plot n xs) (before_hidden s xs n)
 
   -- what is certified without numbers is so with them
-  certified_too : (t u : List TrackState) → without_numbers t ≡ without_numbers u → (n : ℕ) (ps : List PlanePlot) (certs : List KeyedCert) → AreCertified (living life t) n ps certs → AreCertified (living life u) n ps certs
+  certified_too : (t u : List TrackState) → bare t ≡ bare u → (n : ℕ) (ps : List PlanePlot) (certs : List KeyedCert) → AreCertified (living life t) n ps certs → AreCertified (living life u) n ps certs
   certified_too t u e n ps certs h = record { told = told_too life t u e n ps certs h.told; whole = h.whole }
 
-  certified_at : (s t : List TrackState) → without_numbers s ≡ without_numbers t → (xs : List PlanePlot) (n : ℕ) (certs : List KeyedCert) → AreCertified (before next slot_of_plot (living life t) xs n) n (at_slot slot_of_plot n xs) certs
+  certified_at : (s : List TrackState) (xs : List PlanePlot) (n : ℕ) (certs : List KeyedCert) → AreCertified (before next slot_of_plot (living life s) xs n) n (at_slot slot_of_plot n xs) certs
       → AreCertified (living life (before (step_tracks life) slot_of_plot s xs n)) n (at_slot slot_of_plot n xs) certs
-  certified_at s t e xs n certs h =
-      certified_too (before (run_tracks life) slot_of_plot t xs n) (before (step_tracks life) slot_of_plot s xs n) (sym (before_hidden s t e xs n)) n (at_slot slot_of_plot n xs) certs
-      (subst (λ u. AreCertified u n (at_slot slot_of_plot n xs) certs) (before_living t xs n) h)
-
-  certified_from : (s t : List TrackState) → without_numbers s ≡ without_numbers t → (xs : List PlanePlot) (ns : List ℕ) (outs : List (List KeyedCert)) → OutsAt next slot_of_plot AreCertified (living life t) xs ns outs
-      → OutsAt (step_tracks life) slot_of_plot (λ ts. AreCertified (living life ts)) s xs ns outs
-  certified_from s t e xs [] outs h = h
-  certified_from s t e xs (n ∷ ns) [] h = h
-  certified_from s t e xs (n ∷ ns) (o ∷ outs) h = (certified_at s t e xs n o h.0, certified_from s t e xs ns outs h.1)
-
-  told_of : (s : List TrackState) (xs : List PlanePlot) (ns : List ℕ) (outs : List (List KeyedCert)) → OutsAt (step_tracks life) slot_of_plot (λ ts. AreCertified (living life ts)) s xs ns outs → OutsAt (step_tracks life) slot_of_plot (AreTold life) s xs ns outs
-  told_of s xs [] outs h = h
-  told_of s xs (n ∷ ns) [] h = h
-  told_of s xs (n ∷ ns) (o ∷ outs) h = (h.0.told, told_of s xs ns outs h.1)
-
-  whole_of : (s : List TrackState) (xs : List PlanePlot) (ns : List ℕ) (outs : List (List KeyedCert)) → OutsAt (step_tracks life) slot_of_plot (λ ts. AreCertified (living life ts)) s xs ns outs → AllByRecursion AreWhole outs
-  whole_of s xs [] outs h = subst (AllByRecursion AreWhole) (sym h) tt
-  whole_of s xs (n ∷ ns) [] h = absurd h
-  whole_of s xs (n ∷ ns) (o ∷ outs) h = (h.0.whole, whole_of s xs ns outs h.1)
+  certified_at s xs n certs h =
+      certified_too (before (run_tracks life) slot_of_plot s xs n) (before (step_tracks life) slot_of_plot s xs n) (sym (before_hidden s xs n)) n (at_slot slot_of_plot n xs) certs
+      (subst (λ t. AreCertified t n (at_slot slot_of_plot n xs) certs) (before_living s xs n) h)
 
   pub all_certified : (s : List TrackState) (xs : List PlanePlot) (ns : List ℕ) (outs : List (List KeyedCert)) → OutsAt next slot_of_plot AreCertified (living life s) xs ns outs → OutsAt (step_tracks life) slot_of_plot (λ ts. AreCertified (living life ts)) s xs ns outs
-  all_certified s xs ns outs h = certified_from s s refl xs ns outs h
+  all_certified s xs [] outs h = h
+  all_certified s xs (n ∷ ns) [] h = h
+  all_certified s xs (n ∷ ns) (o ∷ outs) h = (certified_at s xs n o h.0, all_certified s xs ns outs h.1)
 
   pub all_told : (s : List TrackState) (xs : List PlanePlot) (ns : List ℕ) (outs : List (List KeyedCert)) → OutsAt next slot_of_plot AreCertified (living life s) xs ns outs → OutsAt (step_tracks life) slot_of_plot (AreTold life) s xs ns outs
-  all_told s xs ns outs h = told_of s xs ns outs (all_certified s xs ns outs h)
+  all_told s xs [] outs h = h
+  all_told s xs (n ∷ ns) [] h = h
+  all_told s xs (n ∷ ns) (o ∷ outs) h = ((certified_at s xs n o h.0).told, all_told s xs ns outs h.1)
 
   pub all_whole : (s : List TrackState) (xs : List PlanePlot) (ns : List ℕ) (outs : List (List KeyedCert)) → OutsAt next slot_of_plot AreCertified (living life s) xs ns outs → AllByRecursion AreWhole outs
-  all_whole s xs ns outs h = whole_of s xs ns outs (all_certified s xs ns outs h)
-
-  -- ---- from the start without its numbers
-
-  bare_run : (s : List TrackState) (n : ℕ) (ps : List PlanePlot) → run_tracks life (without_numbers s) n ps ≡ without_numbers (step_tracks life s n ps)
-  bare_run s n ps =
-      run_bare (tracking life) (ordered life) (tracks_ordered life) (numbering assigned) laws s n ps
-      ∙ sym (numbers_hidden (tracking life) (ordered life) (tracks_ordered life) (numbering assigned) laws s (run_tracks life s n ps))
-
-  bare_stepped : (s : List TrackState) (n : ℕ) (ps : List PlanePlot) → stepped (run_tracks life) (without_numbers s) n ps ≡ without_numbers (stepped (step_tracks life) s n ps)
-  bare_stepped s n [] = refl
-  bare_stepped s n (p ∷ ps) = bare_run s n (p ∷ ps)
-
-  tables_before : (s : List TrackState) (xs : List PlanePlot) (n : ℕ) → before (run_tracks life) slot_of_plot (without_numbers s) xs n ≡ without_numbers (before (step_tracks life) slot_of_plot s xs n)
-  unfolding before
-  tables_before s xs zero = refl
-  tables_before s xs (suc n) =
-      ap (λ t. stepped (run_tracks life) t n (at_slot slot_of_plot n xs)) (tables_before s xs n) ∙ bare_stepped (before (step_tracks life) slot_of_plot s xs n) n (at_slot slot_of_plot n xs)
-
-  states_before : (s : List TrackState) (xs : List PlanePlot) (n : ℕ) → before next slot_of_plot (living life (without_numbers s)) xs n ≡ living life (without_numbers (before (step_tracks life) slot_of_plot s xs n))
-  states_before s xs n = before_living (without_numbers s) xs n ∙ ap (living life) (tables_before s xs n)
-
-  state_after : (s : List TrackState) (xs : List PlanePlot) (n : ℕ) → after next slot_of_plot (living life (without_numbers s)) xs n ≡ living life (without_numbers (after (step_tracks life) slot_of_plot s xs n))
-  unfolding after
-  state_after s xs n =
-      ap (λ t. next t n (at_slot slot_of_plot n xs)) (states_before s xs n) ∙ ap (living life) (bare_run (before (step_tracks life) slot_of_plot s xs n) n (at_slot slot_of_plot n xs))
-
-  states_at : (s : List TrackState) (xs : List PlanePlot) (ns : List ℕ) → map (after next slot_of_plot (living life (without_numbers s)) xs) ns ≡ map (λ ts. living life (without_numbers ts)) (map (after (step_tracks life) slot_of_plot s xs) ns)
-  states_at s xs [] = refl
-  states_at s xs (n ∷ ns) = λ i. state_after s xs n i ∷ states_at s xs ns i
-
-  pub bare_states : (s : List TrackState) (xs : List PlanePlot) → states next slot_of_plot (living life (without_numbers s)) xs ≡ map (λ ts. living life (without_numbers ts)) (states (step_tracks life) slot_of_plot s xs)
-  bare_states s xs = states_at s xs (slots slot_of_plot xs)
-
-  bare_certified : (s : List TrackState) (xs : List PlanePlot) (n : ℕ) (certs : List KeyedCert) → AreTold life (before (step_tracks life) slot_of_plot s xs n) n (at_slot slot_of_plot n xs) certs → AreWhole certs
-      → AreCertified (before next slot_of_plot (living life (without_numbers s)) xs n) n (at_slot slot_of_plot n xs) certs
-  bare_certified s xs n certs h w =
-      let t = before (step_tracks life) slot_of_plot s xs n in
-      subst (λ u. AreCertified u n (at_slot slot_of_plot n xs) certs) (sym (states_before s xs n))
-      (record { told = told_too life t (without_numbers t) (sym (bare_twice t)) n (at_slot slot_of_plot n xs) certs h; whole = w })
-
-  bare_outs_at : (s : List TrackState) (xs : List PlanePlot) (ns : List ℕ) (outs : List (List KeyedCert)) → OutsAt (step_tracks life) slot_of_plot (AreTold life) s xs ns outs → AllByRecursion AreWhole outs
-      → OutsAt next slot_of_plot AreCertified (living life (without_numbers s)) xs ns outs
-  bare_outs_at s xs [] outs h w = h
-  bare_outs_at s xs (n ∷ ns) [] h w = h
-  bare_outs_at s xs (n ∷ ns) (o ∷ outs) h w = (bare_certified s xs n o h.0 w.0, bare_outs_at s xs ns outs h.1 w.1)
-
-  pub bare_outs : (s : List TrackState) (xs : List PlanePlot) (outs : List (List KeyedCert)) → AreOutsOf (step_tracks life) slot_of_plot (AreTold life) s xs outs → AllByRecursion AreWhole outs
-      → AreOutsOf next slot_of_plot AreCertified (living life (without_numbers s)) xs outs
-  bare_outs s xs outs h w = bare_outs_at s xs (slots slot_of_plot xs) outs h w
-
-  pub bare_certificates : (s : List TrackState) (xs : List PlanePlot) (outs : List (List KeyedCert)) → AreOutsOf (step_tracks life) slot_of_plot (λ ts. AreCertified (living life ts)) s xs outs
-      → AreOutsOf next slot_of_plot AreCertified (living life (without_numbers s)) xs outs
-  bare_certificates s xs outs h = let ns = slots slot_of_plot xs in bare_outs_at s xs ns outs (told_of s xs ns outs h) (whole_of s xs ns outs h)
-
-  pub bare_told : (s : List TrackState) (xs : List PlanePlot) (outs : List (List KeyedCert)) → AreOutsOf next slot_of_plot AreCertified (living life (without_numbers s)) xs outs → AreOutsOf (step_tracks life) slot_of_plot (AreTold life) s xs outs
-  bare_told s xs outs h = let ns = slots slot_of_plot xs in told_of s xs ns outs (certified_from s (without_numbers s) (sym (bare_twice s)) xs ns outs h)
-
-  pub bare_whole : (s : List TrackState) (xs : List PlanePlot) (outs : List (List KeyedCert)) → AreOutsOf next slot_of_plot AreCertified (living life (without_numbers s)) xs outs → AllByRecursion AreWhole outs
-  bare_whole s xs outs h = all_whole (without_numbers s) xs (slots slot_of_plot xs) outs h
-
-  pub bare_before : (s : List TrackState) (n : ℕ) → IsBefore (living life s) n → IsBefore (living life (without_numbers s)) n
-  bare_before s n h = record { rising = bare_rises s h.rising; each = bare_all (IsFromBefore n) (λ t b. record { time = b.time; birth = b.birth }) s h.each }
+  all_whole s xs [] outs h = subst (AllByRecursion AreWhole) (sym h) tt
+  all_whole s xs (n ∷ ns) [] h = absurd h
+  all_whole s xs (n ∷ ns) (o ∷ outs) h = (h.0.whole, all_whole s xs ns outs h.1)
 
 -- ---- one run after the other
 
@@ -253,21 +166,12 @@ no_runs : (life : LifeSettings) (s : List TrackState) → length (states next sl
 unfolding slots
 no_runs life s = refl
 
--- once no run is left, the tables are those of the fold with numbers, whichever numbers the run began with
-all_numbered : (s : List TrackState) (all : List Tracks) (tables : List (List TrackState)) (rest : List Tracks) → Numbered s all tables rest → length rest ≡ 0 → (t : List TrackState) → without_numbers s ≡ without_numbers t
-    → (life : LifeSettings) (plots : List PlanePlot) → Rises plot_cmp key_of_plot plots → BeforeFirst IsBefore slot_of_plot (living life s) plots → all ≡ states next slot_of_plot (living life t) plots → tables ≡ states (step_tracks life) slot_of_plot s plots
-all_numbered s all tables (r ∷ rest) h l t q life plots rises b e = absurd (omega (arith, l))
-all_numbered s all tables [] h l t q life [] rises b e =
-    let none : length tables ≡ 0 = omega (arith, h.count, ap length e, no_runs life t) in
+-- once no run is left, the tables are those of the fold with numbers
+pub all_numbered : (s : List TrackState) (all : List Tracks) (tables : List (List TrackState)) (rest : List Tracks) → Numbered s all tables rest → length rest ≡ 0 → (life : LifeSettings) (plots : List PlanePlot) → Rises plot_cmp key_of_plot plots
+    → BeforeFirst IsBefore slot_of_plot (living life s) plots → all ≡ states next slot_of_plot (living life s) plots → tables ≡ states (step_tracks life) slot_of_plot s plots
+all_numbered s all tables (r ∷ rest) h l life plots rises b e = absurd (omega (arith, l))
+all_numbered s all tables [] h l life [] rises b e =
+    let none : length tables ≡ 0 = omega (arith, h.count, ap length e, no_runs life s) in
     nothing tables none ∙ sym (no_states life s)
-all_numbered s all tables [] h l t q life (p ∷ plots) rises b e =
-    sym (append-nil tables) ∙ sym (h.made b.rising) ∙ ap (numbered_runs s) e ∙ numbered_states life s t q (p ∷ plots) rises
-
--- a run from the start itself, and one from it without its numbers
-pub own_numbered : (s : List TrackState) (all : List Tracks) (tables : List (List TrackState)) (rest : List Tracks) → Numbered s all tables rest → length rest ≡ 0
-    → (life : LifeSettings) (plots : List PlanePlot) → Rises plot_cmp key_of_plot plots → BeforeFirst IsBefore slot_of_plot (living life s) plots → all ≡ states next slot_of_plot (living life s) plots → tables ≡ states (step_tracks life) slot_of_plot s plots
-own_numbered s all tables rest h l life plots rises b e = all_numbered s all tables rest h l s refl life plots rises b e
-
-pub bare_numbered : (s : List TrackState) (all : List Tracks) (tables : List (List TrackState)) (rest : List Tracks) → Numbered s all tables rest → length rest ≡ 0
-    → (life : LifeSettings) (plots : List PlanePlot) → Rises plot_cmp key_of_plot plots → BeforeFirst IsBefore slot_of_plot (living life s) plots → all ≡ states next slot_of_plot (living life (without_numbers s)) plots → tables ≡ states (step_tracks life) slot_of_plot s plots
-bare_numbered s all tables rest h l life plots rises b e = all_numbered s all tables rest h l (without_numbers s) (sym (bare_twice s)) life plots rises b e
+all_numbered s all tables [] h l life (p ∷ plots) rises b e =
+    sym (append-nil tables) ∙ sym (h.made b.rising) ∙ ap (numbered_runs s) e ∙ numbered_states life s (p ∷ plots) rises

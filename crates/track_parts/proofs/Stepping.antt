@@ -1,6 +1,6 @@
 -- What a slot's step and its parts are asked for.
 use Rattle.std.proofs.Common.{◌≡◌, ◌∙◌, sym, ℕ, ◌<◌, ◌^◌, ◌-◌, List, [], ◌∷◌, length, arith, subst}
-use Rattle.std.specs.Prelude.{fold, Result, Ok, Err, IfOk}
+use Rattle.std.specs.Prelude.{fold}
 use Rattle.std.specs.List.Sorted.{IsStrictlySortedBy}
 use Rattle.std.specs.Cmp.{IsTotalOrder}
 use Rattle.std.proofs.lemmas.Cmp.{on_total}
@@ -16,7 +16,7 @@ use Rattle.slot_step.proofs.Tables.{merged_of, run_of_none}
 use Rattle.slot_step.proofs.Tracker.{tracks_ordered}
 use Rattle.track_parts.specs.Members.{Tracks}
 use Rattle.slot_step.specs.declared.certs.KeyedCert.{KeyedCert}
-use Rattle.late_window.specs.Interleavings.{IsJoin}
+use Rattle.span_clusters.specs.Interleavings.{IsJoin}
 use Rattle.track_parts.specs.Tracking.{woven_by, by_birth, both_certs, SharesNone}
 use Rattle.track_parts.specs.Woven.{woven_is}
 
@@ -45,8 +45,3 @@ pub join_of : (xs : List (List KeyedCert)) (y : List KeyedCert) → 0 < length x
 unfolding woven_by
 join_of [] y l e = absurd (omega (arith, l))
 join_of (x ∷ xs) y l e = e
-
--- what follows from what holds of the value, if there is one
-pub ok_weaker : {X E : Type 0} (r : Result X E) (P Q : X → Type 0) → ((x : X) → P x → Q x) → IfOk r P → IfOk r Q
-ok_weaker (Ok x) P Q f h = f x h
-ok_weaker (Err e) P Q f h = h

@@ -35,8 +35,8 @@ use Rattle.slot_step.proofs.Slotted.{currents, after, map_sorted}
 use Rattle.slot_step.proofs.Tables
 use Rattle.slot_step.proofs.Certifying
 use Rattle.slot_step.proofs.Tracker.{tracks_ordered}
-use Rattle.late_window.specs.Interleavings.{Interleaved, KeysDiffer}
-use Rattle.late_window.specs.Interleavings.Interleaved.{neither, first, second}
+use Rattle.span_clusters.specs.Interleavings.{Interleaved, KeysDiffer}
+use Rattle.span_clusters.specs.Interleavings.Interleaved.{neither, first, second}
 use Rattle.span_clusters.specs.Parts.{AreTwoInSlot, AreApart, picked_items}
 use Rattle.span_clusters.proofs.Numbered.{picks_mix, picks_all_items}
 use Rattle.track_parts.specs.Members.{Tracks}
@@ -186,10 +186,10 @@ beside_next s t n xs ys b hs ht ix iy rx ry d = record {
 
 -- ---- two parts in one slot
 
-abbrev pub Two : ℕ → Tracks → Tracks → List PlanePlot → List PlanePlot → List PlanePlot → Type 0
+abbrev Two : ℕ → Tracks → Tracks → List PlanePlot → List PlanePlot → List PlanePlot → Type 0
 Two n s t xs ys zs = AreTwoInSlot plot_cmp key_of_plot slot_of_plot IsBefore SharesNone n s t xs ys zs
 
-pub two_parts : (n : ℕ) (s t : Tracks) (xs ys zs : List PlanePlot) → Two n s t xs ys zs → AreTwoParts (ordered s.life) n s.table t.table xs ys zs
+two_parts : (n : ℕ) (s t : Tracks) (xs ys zs : List PlanePlot) → Two n s t xs ys zs → AreTwoParts (ordered s.life) n s.table t.table xs ys zs
 two_parts n s t xs ys zs i = record {
   plots = woven xs ys zs i.items;
   of_slot = i.of_slot;
@@ -200,7 +200,7 @@ two_parts n s t xs ys zs i = record {
 }
 
 -- what holds where both have the one life holds where the other's is equal to it
-pub with_life : (P : LifeSettings → Type 0) (s t : Tracks) (n : ℕ) (xs ys : List PlanePlot) → s.life ≡ t.life → AreApart gates n s t xs ys
+with_life : (P : LifeSettings → Type 0) (s t : Tracks) (n : ℕ) (xs ys : List PlanePlot) → s.life ≡ t.life → AreApart gates n s t xs ys
     → (DontCross (tracking s.life) (ordered s.life) n s.table t.table xs ys → P s.life) → P t.life
 with_life P s t n xs ys e a f =
     subst (λ (l : LifeSettings). (slot_parts.Reaches (tracking l) (ordered l) n t.table ys xs → ⊥) → P l) e (λ back. f (record { there = a.there; back = back })) a.back
@@ -219,7 +219,7 @@ certs_total : IsTotalOrder by_least
 certs_total = on_total (λ (c : KeyedCert). c.least) key_cmp_total
 
 -- certificates that are told rise
-pub told_rise : (life : LifeSettings) (ts : List TrackState) (n : ℕ) (ps : List PlanePlot) (certs : List KeyedCert) → AreTold life ts n ps certs → IsStrictlySortedBy by_least certs
+told_rise : (life : LifeSettings) (ts : List TrackState) (n : ℕ) (ps : List PlanePlot) (certs : List KeyedCert) → AreTold life ts n ps certs → IsStrictlySortedBy by_least certs
 told_rise life ts n ps certs h = subst (IsStrictlySortedBy by_least) (sym h.all) (map_sorted by_least told h.certificates h.are.order)
 
 both_told : (l m : LifeSettings) (s t : List TrackState) (n : ℕ) (xs ys zs : List PlanePlot) (ws : List TrackState) (a b : List KeyedCert) (ha : AreTold l s n xs a) (hb : AreTold m t n ys b)

@@ -1,5 +1,5 @@
 -- Tracks beside the table before them, which has the numbers.
-use Rattle.std.specs.Prelude.{List, [], ◌∷◌, if◌then◌else◌, Option, None, map, Bool, false, ℕ}
+use Rattle.std.specs.Prelude.{List, [], ◌∷◌, if◌then◌else◌, Option, None, ℕ}
 use Rattle.std.specs.List.{AllByRecursion}
 use Rattle.std.specs.Ordering.{is_lt, is_eq}
 use Rattle.trk_base.specs.declared.keys.Key.{Key}
@@ -8,16 +8,11 @@ use Rattle.price_form.specs.Certificates.{IsCert}
 use Rattle.slot_step.specs.declared.certs.KeyedCert.{KeyedCert}
 use Rattle.track_life.specs.declared.settings.LifeSettings.{LifeSettings}
 use Rattle.track_life.specs.Tracks.{TrackState}
-use Rattle.track_life.specs.Numbers.{with_number}
 use Rattle.track_parts.specs.Members.{Tracks}
 
 -- these tracks, where tracks live like this
 abbrev pub living : LifeSettings → List TrackState → Tracks
 living life ts = record { life = life; table = ts }
-
--- tracks without their numbers
-abbrev pub without_numbers : List TrackState → List TrackState
-without_numbers ts = map (with_number None) ts
 
 -- the tracks from the first on that isn't born before b
 abbrev pub from_birth : Key → List TrackState → List TrackState
@@ -28,11 +23,6 @@ from_birth b (t ∷ ts) = if is_lt (key_cmp t.birth b) then from_birth b ts else
 abbrev pub first_number : Key → List TrackState → Option ℕ
 first_number b [] = None
 first_number b (t ∷ ts) = if is_eq (key_cmp t.birth b) then t.number else None
-
--- whether the first track is born at b
-abbrev pub begins_at : Key → List TrackState → Bool
-begins_at b [] = false
-begins_at b (t ∷ ts) = is_eq (key_cmp t.birth b)
 
 -- each is a whole certificate
 abbrev pub AreWhole : List KeyedCert → Type 0

@@ -3,17 +3,11 @@
 //! is merged.
 #![tactic(auto)]
 
-mod apart;
-mod certs_left;
 mod choosing;
 mod fold;
-mod groups;
 mod laws;
-mod leaving;
-mod nearness;
 mod numbering;
 mod parts;
-mod removing;
 mod splitting;
 #[cfg(test)]
 mod tests;
@@ -21,6 +15,6 @@ mod tracks;
 mod weaving;
 
 pub use fold::PlotFold;
-pub use laws::{hidden_numbers, numbered_certificates};
+pub use laws::numbered_certificates;
 pub use numbering::numbered_tables;
 pub use tracks::Tracks;

@@ -10,7 +10,7 @@ ghost use Rattle.late_window.specs.Folding.{Rises, BeforeFirst, states};
 ghost use Rattle.slot_step.specs.Numbers.{renumbered_from, numbered};
 ghost use Rattle.slot_step.specs.Tracker.{ordered, numbering, step_tracks};
 ghost use Rattle.track_parts.specs.Tracking.{next, slot_of_plot, key_of_plot, by_birth, IsBefore};
-ghost use Rattle.track_parts.specs.Numbered.{living, without_numbers, from_birth, first_number};
+ghost use Rattle.track_parts.specs.Numbered.{living, from_birth, first_number};
 
 use crate::Tracks;
 use late_window::latest_of;
@@ -22,17 +22,15 @@ use trk_base::{Key, NoMemory};
 /// slot. A track has the number that the track of its birth has in the table before, the first one's
 /// being the start table, and then each confirmed track without a number is given one, in birth order.
 ///
-/// The run is one from the start table, or from that without its numbers. Its tables are moved, and
-/// each is walked once beside the one before it. Without memory there is no table.
+/// The tables are moved, and each is walked once beside the one before it. Without memory there is
+/// no table.
 pub fn numbered_tables(
     alloc: Global,
     start: &Table,
     runs: Vec<Tracks>,
 ) -> Result<Vec<Table>, NoMemory>
-    ensures own { (life : LifeSettings) (plots : List PlanePlot) → Rises plot_cmp key_of_plot plots → BeforeFirst IsBefore slot_of_plot (living life start.now) plots
+    ensures { (life : LifeSettings) (plots : List PlanePlot) → Rises plot_cmp key_of_plot plots → BeforeFirst IsBefore slot_of_plot (living life start.now) plots
         → runs.items ≡ states next slot_of_plot (living life start.now) plots → IfOk result (λ tables. tables.items ≡ states (step_tracks life) slot_of_plot start.now plots) }
-    ensures bare { (life : LifeSettings) (plots : List PlanePlot) → Rises plot_cmp key_of_plot plots → BeforeFirst IsBefore slot_of_plot (living life start.now) plots
-        → runs.items ≡ states next slot_of_plot (living life (without_numbers start.now)) plots → IfOk result (λ tables. tables.items ≡ states (step_tracks life) slot_of_plot start.now plots) }
 {
     let mut tables = Vec::with_capacity(alloc, runs.len())?;
     for run in runs {

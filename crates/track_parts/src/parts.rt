@@ -1,7 +1,7 @@
 // The tracker's tracks as members of states that can be split and merged.
 ghost use Rattle.std.specs.Prelude.{◌≡◌, ◌<◌, ◌≤◌, ◌+◌, ◌↔◌, ◌==◌, [], length, fold, IfOk, IsTrue, All};
 ghost use Rattle.late_window.specs.Folding.{Rises, InSlot};
-ghost use Rattle.late_window.specs.Interleavings.{IsJoin};
+ghost use Rattle.span_clusters.specs.Interleavings.{IsJoin};
 ghost use Rattle.span_clusters.specs.Parts.{Reaches};
 ghost use Rattle.track_parts.specs.Tracking.{both_certs};
 

@@ -4,21 +4,17 @@ ghost use Rattle.std.specs.List.{AllByRecursion};
 ghost use Rattle.slot_step.specs.Calls.{AreBatches};
 ghost use Rattle.track_parts.specs.Tracking.{key_of_plot};
 
-mod nearness;
-
-use crate::apart::may_cross;
-use crate::certs_left::out_left;
-use crate::{PlotFold, Tracks, hidden_numbers, numbered_certificates, numbered_tables};
+use crate::{PlotFold, Tracks, numbered_certificates, numbered_tables};
 use late_window::{Window, count_slots, run_slots};
 use plot_geometry::PlanePlot;
-use slot_step::{Batch, KeyedCert, are_slot_plots, batches_of, slot_step};
+use slot_step::{Batch, are_slot_plots, batches_of, slot_step};
 use std::alloc::Global;
 use std::marker::Brand;
 use std::process::Abort;
 use std::sync::ledger::{Blank, Ledger};
 use std::test::Fail;
 use track_life::{LifeSettings, Table};
-use trk_base::{Key, NoMemory, Sequence, Steps, TryCopy, charge, slot_of};
+use trk_base::{Key, NoMemory, Steps, TryCopy, charge, slot_of};
 
 const LIFE: LifeSettings = LifeSettings {
     hits: 1,
@@ -172,53 +168,5 @@ fn numbers<L: Ledger>(rt: &impl Abort, alloc: Global, blank: Blank) -> Result<()
 #[test]
 fn numbers_a_span(rt: HostRuntime) -> Result<(), Fail> {
     numbered_certificates();
-    hidden_numbers();
     numbers::<Brand>(&rt, rt.alloc(), Blank::new(1))
-}
-
-// The certificates of a slot whose plots no track gates.
-fn begun_certs<L: Ledger>(
-    rt: &impl Abort,
-    alloc: Global,
-    slot: u64,
-    plots: &[PlanePlot],
-    steps: &mut Steps<L>,
-) -> Result<Sequence<KeyedCert>, Fail> {
-    let batches = batches_in(rt, alloc, slot, plots)?;
-    let mut ticket = charge(1, steps);
-    let step = slot_step(
-        alloc,
-        &Table::empty(alloc),
-        slot,
-        &batches,
-        &LIFE,
-        &mut ticket,
-    )?;
-    Ok(step.certs)
-}
-
-fn one_of_two<L: Ledger>(rt: &impl Abort, alloc: Global, blank: Blank) -> Result<(), Fail>
-    requires name { blank.name ≡ L.name }
-    requires parts { blank.parts ≡ L.parts }
-    requires one { blank.parts ≡ 1 }
-{
-    let mut steps: Steps<L> = Steps::new(blank);
-    let none = Tracks::of(LIFE, Table::empty(alloc));
-    let plots = plots_in(alloc, 72_061)?;
-    assert_eq!(rt; plots.len(), 2);
-    let certs = begun_certs(rt, alloc, 72_061, &plots, &mut steps)?;
-    let (own, others) = plots.split_at(1);
-    assert!(rt; !may_cross(alloc, &none, &none, own, others, &certs)?);
-    assert!(rt; may_cross(alloc, &none, &none, own, own, &certs)?);
-    let left = out_left(alloc, certs, own)?;
-    assert_eq!(rt; left.len(), 1);
-    let kept = &left.as_slice()[0];
-    let other = &others[0];
-    assert!(rt; kept.least == other.key);
-    Ok(())
-}
-
-#[test]
-fn takes_one_of_two_parts_away(rt: HostRuntime) -> Result<(), Fail> {
-    one_of_two::<Brand>(&rt, rt.alloc(), Blank::new(1))
 }

@@ -1,7 +1,6 @@
 // Tracks that are folded by themselves.
 ghost use Rattle.std.specs.Prelude.{◌≡◌};
 ghost use Rattle.track_life.specs.Tables.{IsTable};
-ghost use Rattle.track_parts.specs.Numbered.{living, without_numbers};
 
 use std::alloc::Global;
 use std::marker::Model;
@@ -59,19 +58,6 @@ impl Tracks {
         self.table
     }
 
-    /// These tracks without their numbers (I062/040). It takes no memory.
-    pub fn without_numbers(self) -> Tracks
-        ensures { result ≡ living self.life (without_numbers self.table) }
-    {
-        let Tracks { life, table } = self;
-        let mut tracks = table.into_tracks();
-        drop_numbers(&mut tracks);
-        Tracks {
-            life,
-            table: Table::of(tracks),
-        }
-    }
-
     /// The tracks, to read.
     pub fn tracks(&self) -> &[Track]
         ensures value { result.now ≡ self.now.table }
@@ -84,14 +70,5 @@ impl Tracks {
 impl TryCopy for Tracks {
     fn copy(&self, alloc: Global) -> Result<Tracks, NoMemory> {
         Ok(Tracks::of(self.life, self.table.copy(alloc)?))
-    }
-}
-
-// Takes each track's number away.
-fn drop_numbers(tracks: &mut [Track])
-    ensures { tracks.new ≡ without_numbers tracks.old }
-{
-    for track in tracks.iter_mut() {
-        track.number = None;
     }
 }

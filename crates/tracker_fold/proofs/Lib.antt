@@ -6,7 +6,6 @@ pub mod Held
 pub mod Moving
 pub mod Planes
 pub mod Plots
-pub mod Reopened
 pub mod SameOrder
 pub mod Spanned
 pub mod Starting

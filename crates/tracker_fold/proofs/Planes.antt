@@ -1,12 +1,12 @@
 -- The plots that a list of entries gives, in one slot and with one entry more.
-use Rattle.std.proofs.Common.{◌≡◌, ◌∙◌, ap, sym, refl, ℕ, ◌+◌, ◌<◌, Bool, true, false, cond, eqb, ltb, List, [], ◌∷◌, ◌++◌, length, take, get_or, append-nil, Option, Some, None}
-use Rattle.std.specs.Prelude.{IfSome, filter, filter_map}
+use Rattle.std.proofs.Common.{◌≡◌, ◌∙◌, ap, sym, refl, ℕ, ◌+◌, ◌<◌, Bool, true, false, cond, eqb, List, [], ◌∷◌, ◌++◌, length, take, get_or, append-nil, Option, Some, None}
+use Rattle.std.specs.Prelude.{IfSome, filter_map}
 use Rattle.std.specs.List.{cons_option}
 use Rattle.std.proofs.lemmas.List.{take_more}
 use Rattle.std.proofs.lemmas.List.Elements.{filter_map-append}
 use Rattle.plot_geometry.specs.declared.radars.RadarSettings.{RadarSettings}
 use Rattle.plot_geometry.specs.Plots.{PlanePlot}
-use Rattle.late_window.specs.Folding.{at_slot, below}
+use Rattle.late_window.specs.Folding.{at_slot}
 use Rattle.admission_log.specs.declared.entries.Entry.{Entry}
 use Rattle.admission_log.specs.Entries.{slot_in}
 use Rattle.tracker_fold.specs.Steps.{plane, planes}
@@ -22,22 +22,15 @@ module _ (f : Entry → Option PlanePlot) (own : (e : Entry) → IfSome (f e) (H
   either ps true = refl
   either ps false = refl
 
-  module _ (t : ℕ → Bool) where
-    with_first : (e : Entry) (es : List Entry) → filter (λ (p : PlanePlot). t p.key.slot) (filter_map f es) ≡ filter_map f (filter (λ e. t (slot_in e)) es) → (x : Option PlanePlot) → f e ≡ x → IfSome x (HasKey e)
-        → filter (λ (p : PlanePlot). t p.key.slot) (cons_option x (filter_map f es)) ≡ filter_map f (cond (t (slot_in e)) (e ∷ filter (λ e. t (slot_in e)) es) (filter (λ e. t (slot_in e)) es))
-    with_first e es same None is k = same ∙ either (filter_map f (filter (λ e. t (slot_in e)) es)) (t (slot_in e)) ∙ given e (filter (λ e. t (slot_in e)) es) (t (slot_in e)) None is
-    with_first e es same (Some p) is k = (λ i. cond (t (slot_is e p k i)) (p ∷ same i) (same i)) ∙ given e (filter (λ e. t (slot_in e)) es) (t (slot_in e)) (Some p) is
+  with_first : (n : ℕ) (e : Entry) (es : List Entry) → at_slot slot_of_plot n (filter_map f es) ≡ filter_map f (at_slot slot_in n es) → (x : Option PlanePlot) → f e ≡ x → IfSome x (HasKey e)
+      → at_slot slot_of_plot n (cons_option x (filter_map f es)) ≡ filter_map f (cond (eqb (slot_in e) n) (e ∷ at_slot slot_in n es) (at_slot slot_in n es))
+  with_first n e es same None is k = same ∙ either (filter_map f (at_slot slot_in n es)) (eqb (slot_in e) n) ∙ given e (at_slot slot_in n es) (eqb (slot_in e) n) None is
+  with_first n e es same (Some p) is k = (λ i. cond (eqb (slot_is e p k i) n) (p ∷ same i) (same i)) ∙ given e (at_slot slot_in n es) (eqb (slot_in e) n) (Some p) is
 
-    plots_in : (es : List Entry) → filter (λ (p : PlanePlot). t p.key.slot) (filter_map f es) ≡ filter_map f (filter (λ e. t (slot_in e)) es)
-    plots_in [] = refl
-    plots_in (e ∷ es) = with_first e es (plots_in es) (f e) refl (own e)
-
-  -- those of one slot are given by the entries of that slot, and those below one by the entries below it
+  -- those of one slot are given by the entries of that slot
   pub plots_at : (n : ℕ) (es : List Entry) → at_slot slot_of_plot n (filter_map f es) ≡ filter_map f (at_slot slot_in n es)
-  plots_at n es = plots_in (λ m. eqb m n) es
-
-  pub plots_below : (n : ℕ) (es : List Entry) → below slot_of_plot n (filter_map f es) ≡ filter_map f (below slot_in n es)
-  plots_below n es = plots_in (λ m. ltb m n) es
+  plots_at n [] = refl
+  plots_at n (e ∷ es) = with_first n e es (plots_at n es) (f e) refl (own e)
 
 module _ (radars : List RadarSettings) where
   -- one entry more

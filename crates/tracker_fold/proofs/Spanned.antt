@@ -30,7 +30,7 @@ use Rattle.tracker_fold.specs.declared.state.TrackerState.{TrackerState}
 use Rattle.tracker_fold.specs.Folds.{slot_of_plot}
 use Rattle.tracker_fold.specs.Keys.{key_in}
 use Rattle.tracker_fold.specs.PlaneOrder.{HasKey, slot_is, own_key, planes_rise}
-use Rattle.tracker_fold.specs.Spans.{AreAllPlots, AreWhole, IsCertified, with_table}
+use Rattle.tracker_fold.specs.Spans.{AreAllPlots, AreWhole, with_table}
 use Rattle.tracker_fold.specs.Steps.{plane, planes, radars_after, moved, next, IsBefore, IsOut}
 use Rattle.tracker_fold.proofs.FilledSlots.{some, slots_only}
 use Rattle.tracker_fold.proofs.Planes.{plots_at}
@@ -184,21 +184,6 @@ module _ (s : TrackerState) (es : List Entry) (all : AreAllPlots s.radars es) wh
 
   pub outs_are : (told : List (List KeyedCert)) → AreOutsOf (step_tracks s.life) slot_of_plot (AreTold s.life) s.table plots told → AreWhole told → AreOutsOf next slot_in IsOut s es told
   outs_are told o w = outs_at (slots slot_in es) told (subst (λ (ns : List ℕ). OutsAt (step_tracks s.life) slot_of_plot (AreTold s.life) s.table plots ns told) (sym (slots_same s.radars es all)) o) w
-
-  -- ---- and back
-
-  out_back : (n : ℕ) (certs : List KeyedCert) → IsOut (before next slot_in s es n) n (entries_at n) certs → IsCertified s (before (step_tracks s.life) slot_of_plot s.table plots n) n (at_slot slot_of_plot n plots) certs
-  out_back n certs h =
-      subst (λ (ps : List PlanePlot). IsCertified s (before (step_tracks s.life) slot_of_plot s.table plots n) n ps certs) (plotted_at n)
-      (subst (λ (t : TrackerState). IsOut t n (entries_at n) certs) (before_is n) h)
-
-  all_back : (ns : List ℕ) (told : List (List KeyedCert)) → OutsAt next slot_in IsOut s es ns told → OutsAt (step_tracks s.life) slot_of_plot (IsCertified s) s.table plots ns told
-  all_back [] told o = o
-  all_back (n ∷ ns) [] o = absurd o
-  all_back (n ∷ ns) (certs ∷ told) o = (out_back n certs o.0, all_back ns told o.1)
-
-  pub outs_back : (told : List (List KeyedCert)) → AreOutsOf next slot_in IsOut s es told → AreOutsOf (step_tracks s.life) slot_of_plot (IsCertified s) s.table plots told
-  outs_back told o = subst (λ (ns : List ℕ). OutsAt (step_tracks s.life) slot_of_plot (IsCertified s) s.table plots ns told) (slots_same s.radars es all) (all_back (slots slot_in es) told o)
 
 -- ---- the state before the first slot
 

@@ -3,7 +3,6 @@ ghost use Rattle.std.specs.Prelude.{◌≡◌, ◌<◌, ◌≤◌, ◌+◌, ℕ,
 ghost use Rattle.trk_base.specs.Numbers.{slot_of};
 ghost use Rattle.plot_geometry.specs.declared.radars.RadarSettings.{RadarSettings};
 ghost use Rattle.plot_geometry.specs.PlotOrder.{plot_cmp};
-ghost use Rattle.late_window.specs.Reopening.{WasFolded};
 ghost use Rattle.late_window.specs.Folding.{at_slot, below, slots, states, AreOutsOf, BeforeFirst, OutsAt, Rises};
 ghost use Rattle.slot_step.specs.declared.certs.KeyedCert.{KeyedCert};
 ghost use Rattle.slot_step.specs.Calls.{AreFromBefore};
@@ -18,7 +17,7 @@ ghost use Rattle.admission_log.specs.Biases.{radar_among};
 ghost use Rattle.admission_log.specs.Plots.{plots_of};
 ghost use Rattle.tracker_fold.specs.declared.state.TrackerState.{TrackerState};
 ghost use Rattle.tracker_fold.specs.Keys.{key_in};
-ghost use Rattle.tracker_fold.specs.Spans.{AreAllPlots, AreWhole, IsCertified, with_table};
+ghost use Rattle.tracker_fold.specs.Spans.{AreAllPlots, AreWhole, with_table};
 ghost use Rattle.tracker_fold.specs.Starts.{start};
 ghost use Rattle.tracker_fold.specs.Steps.{next, planes, radars_after, IsBefore, IsOut};
 ghost use Rattle.tracker_fold.specs.Folds.{AreEntriesOf, AreFilledFrom, AreCertificatesFrom, state_before, slot_of_plot, tracks_before};
@@ -56,11 +55,4 @@ pub fn folded_span()
     ensures states { (s : TrackerState) (entries : List Entry) → AreAllPlots s.radars entries → states next slot_in s entries ≡ map (with_table s) (states (step_tracks s.life) slot_of_plot s.table (planes s.radars entries)) }
     ensures outs { (s : TrackerState) (entries : List Entry) → AreAllPlots s.radars entries → (told : List (List KeyedCert)) → AreOutsOf (step_tracks s.life) slot_of_plot (AreTold s.life) s.table (planes s.radars entries) told → AreWhole told
         → AreOutsOf next slot_in IsOut s entries told }
-{}
-
-/// What was folded of such a span before late entries came among it is what was folded of its plots
-/// before the late entries' plots came: the tracks of each state, and the certificates.
-pub fn reopened_span()
-    ensures { (s : TrackerState) (entries late : List Entry) (ran : List TrackerState) (told : List (List KeyedCert)) → AreAllPlots s.radars entries → WasFolded next IsOut slot_in s entries late ran told
-        → WasFolded (step_tracks s.life) (IsCertified s) slot_of_plot s.table (planes s.radars entries) (planes s.radars late) (map (λ t. t.table) ran) told }
 {}

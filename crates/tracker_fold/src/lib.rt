@@ -14,8 +14,8 @@ mod step;
 mod tests;
 
 pub use keys::EntryKey;
-pub use laws::{folded_log, folded_radars, folded_span, reopened_span};
+pub use laws::{folded_log, folded_radars, folded_span};
 pub use priced::PricedCerts;
-pub use spans::{span_certs, span_outs, span_plots, span_states};
+pub use spans::{span_outs, span_plots, span_states};
 pub use state::TrackerState;
 pub use step::{TrackerFold, radars_after};

@@ -68,17 +68,3 @@ pub fn span_outs(
     }
     Ok(outs)
 }
-
-/// The certificates of each slot, where what is written of them isn't wanted any more.
-pub fn span_certs(
-    alloc: Global,
-    outs: Vec<PricedCerts>,
-) -> Result<Vec<Sequence<KeyedCert>>, NoMemory>
-    ensures { IfOk result (λ v. v.items ≡ outs.items) }
-{
-    let mut told = Vec::with_capacity(alloc, outs.len())?;
-    for certs in outs {
-        told.push(certs.into_certs())?;
-    }
-    Ok(told)
-}

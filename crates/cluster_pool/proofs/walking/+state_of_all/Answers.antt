@@ -1,6 +1,6 @@
 use Rattle.std.proofs.Common.{◌≡◌, ◌+◌, ◌/◌, ◌<◌, ◌≤◌, ◌++◌, length, arith, rules}
 use Rattle.std.proofs.lemmas.Result.{IfOk-weaker}
-use Rattle.late_window.specs.Interleavings.{EachPair, IsJoin}
+use Rattle.span_clusters.specs.Interleavings.{EachPair, IsJoin}
 use Rattle.cluster_pool.specs.Walks.{left_states}
 use Rattle.cluster_pool.proofs.Halves.{left_beside, right_beside, both_halves, halves_joined}
 use Rattle.cluster_pool.proofs.walking.+state_of_all.Goals as goal

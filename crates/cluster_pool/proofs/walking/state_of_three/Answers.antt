@@ -1,6 +1,6 @@
 use Rattle.std.proofs.Common.{◌≡◌, ◌∙◌, ◌++◌, ◌∷◌, [], length, ap, refl, sym, subst, rules}
 use Rattle.std.proofs.lemmas.Result.{IfOk-weaker}
-use Rattle.late_window.specs.Interleavings.{IsJoin}
+use Rattle.span_clusters.specs.Interleavings.{IsJoin}
 use Rattle.cluster_pool.specs.Walks.{left_states}
 use Rattle.cluster_pool.proofs.Halves.{one_of, left_beside, both_halves, halves_joined}
 use Rattle.cluster_pool.proofs.walking.state_of_three.Goals as goal

@@ -1,6 +1,6 @@
 use Rattle.std.proofs.Common.{◌≡◌, ◌∙◌, ◌∷◌, [], sym, subst₂, rules}
 use Rattle.std.proofs.lemmas.Result.{IfOk-weaker}
-use Rattle.late_window.specs.Interleavings.{IsJoin}
+use Rattle.span_clusters.specs.Interleavings.{IsJoin}
 use Rattle.cluster_pool.specs.Walks.{left_states}
 use Rattle.cluster_pool.proofs.Halves.{two_of, two_beside, two_joined}
 use Rattle.cluster_pool.proofs.walking.state_of_two.Goals as goal

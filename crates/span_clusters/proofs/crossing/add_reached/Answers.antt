@@ -1,7 +1,7 @@
 use Rattle.std.proofs.Common.{◌≡◌, rules, sym, subst, subst₂}
 use Rattle.std.specs.List.{AllByRecursion}
 use Rattle.late_window.proofs.Groups.{slots_rise}
-use Rattle.late_window.specs.Interleavings.{Interleaved}
+use Rattle.span_clusters.specs.Interleavings.{Interleaved}
 use Rattle.span_clusters.specs.Parts.{ReachesItems}
 use Rattle.span_clusters.specs.Jobs.{ReachesOneAs}
 use Rattle.span_clusters.proofs.Interleavings.{swapped, first_rises, all_of_first}

@@ -1,5 +1,5 @@
 use Rattle.std.proofs.Common.{◌≡◌, ◌<◌, sym, subst₂, length, rules}
-use Rattle.late_window.specs.Interleavings.{Interleaved, KeysDiffer}
+use Rattle.span_clusters.specs.Interleavings.{Interleaved, KeysDiffer}
 use Rattle.span_clusters.proofs.GatheredItems.{gathered_none, gathered_one, gathered_all, next_apart}
 use Rattle.span_clusters.proofs.crossing.items_of_all.Goals as goal
 

@@ -1,5 +1,5 @@
 use Rattle.std.proofs.Common.{◌≡◌, ◌<◌, ◌++◌, ◌∷◌, [], length, drop, rules}
-use Rattle.late_window.specs.Interleavings.{IsBelowFirst}
+use Rattle.span_clusters.specs.Interleavings.{IsBelowFirst}
 use Rattle.span_clusters.proofs.GatheredItems.{left_there, taken_one}
 use Rattle.span_clusters.proofs.crossing.items_without.Goals as goal
 use Rattle.span_clusters.proofs.crossing.items_without.Goals.{then-is_below_first+in_ok-push, else-is_below_first}

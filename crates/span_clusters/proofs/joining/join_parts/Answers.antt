@@ -1,6 +1,6 @@
 use Rattle.std.proofs.Common.{subst, rules, ◌≡◌}
 use Rattle.late_window.proofs.Groups.{slots_rise}
-use Rattle.late_window.specs.Interleavings.{Interleaved}
+use Rattle.span_clusters.specs.Interleavings.{Interleaved}
 use Rattle.span_clusters.proofs.Firsts.{first_of_both}
 use Rattle.span_clusters.proofs.joining.join_parts.Goals as goal
 

@@ -4,7 +4,7 @@ use Rattle.std.specs.Vec.Iter.{into_iter_items, into_iter_len}
 use Rattle.track_life.specs.Tracks.{TrackState}
 use Rattle.late_window.specs.Folding.{latest}
 use Rattle.track_parts.specs.Tracking.{by_birth}
-use Rattle.track_parts.proofs.Runs.{Numbered, with_numbers, none_numbered, one_numbered, own_numbered, bare_numbered}
+use Rattle.track_parts.proofs.Runs.{Numbered, with_numbers, none_numbered, one_numbered, all_numbered}
 use Rattle.track_parts.proofs.numbering.numbered_tables.Goals as goal
 
 pub loop-run-init : goal.loop-run-init
@@ -33,14 +33,8 @@ loop-run-preserved c =
           (λ up. c.in_ok-table.ensures.numbers (subst (IsStrictlySortedBy by_birth) (sym before) up) ∙ ap (λ b. with_numbers b run) before) c.in_ok-table.ensures.table);
     }
 
-pub returns-clause-own : goal.returns-clause-own
-returns-clause-own c = λ life plots rises before same.
+pub returns : goal.returns
+returns c = λ life plots rises before same.
     let at = c.loop-run in
     let none : length (into_iter_items at.run-iterator) ≡ 0 = sym at.invariant.count ∙ c.in-None.ensures.steps.0 in
-    own_numbered c.args.start.now (into_iter_items c.into_iter-run-iterator.result) at.tables.items (into_iter_items at.run-iterator) at.invariant.tables none life plots rises before (c.into_iter-run-iterator.ensures.into_iter_gives.0 ∙ same)
-
-pub returns-clause-bare : goal.returns-clause-bare
-returns-clause-bare c = λ life plots rises before same.
-    let at = c.loop-run in
-    let none : length (into_iter_items at.run-iterator) ≡ 0 = sym at.invariant.count ∙ c.in-None.ensures.steps.0 in
-    bare_numbered c.args.start.now (into_iter_items c.into_iter-run-iterator.result) at.tables.items (into_iter_items at.run-iterator) at.invariant.tables none life plots rises before (c.into_iter-run-iterator.ensures.into_iter_gives.0 ∙ same)
+    all_numbered c.args.start.now (into_iter_items c.into_iter-run-iterator.result) at.tables.items (into_iter_items at.run-iterator) at.invariant.tables none life plots rises before (c.into_iter-run-iterator.ensures.into_iter_gives.0 ∙ same)

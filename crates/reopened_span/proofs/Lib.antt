@@ -1,5 +1,0 @@
-pub mod ItemsOnSides
-pub mod Marked
-pub mod OnWay
-pub mod StartOnSides
-pub mod Stepping

@@ -1,4 +1,0 @@
-use Rattle.reopened_span.proofs.lamps.TwoLampsSeparable.crosses.Goals as goal
-
-pub returns : goal.returns
-returns c = c.reaches.ensures c.args.arg3 c.args.arg4.now

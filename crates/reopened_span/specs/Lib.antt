@@ -1,4 +1,0 @@
-pub mod Lamps
-pub mod LampLaws
-pub mod Sides
-pub mod SpanSides

@@ -1,7 +1,0 @@
-use Rattle.std.proofs.Common.{◌≡◌, drop}
-use Rattle.std.specs.List.{list_all}
-use Rattle.track_life.specs.Numbers.{is_among}
-use Rattle.track_parts.proofs.apart.all_among.Given as goal
-
-abbrev pub invariant-loop-arrival : goal.invariant-loop-arrival
-invariant-loop-arrival l = list_all (is_among l.fn.arrivals) (drop l.arrival-index l.named) ≡ list_all (is_among l.fn.arrivals) l.named

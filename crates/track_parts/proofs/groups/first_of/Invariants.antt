@@ -1,8 +1,0 @@
-use Rattle.std.proofs.Common.{◌≤◌}
-use Rattle.track_parts.proofs.groups.first_of.Given as goal
-
-abbrev pub invariant-way : goal.invariant-way
-invariant-way l = l.at ≤ l.item
-
-abbrev pub decreases-way : goal.decreases-way
-decreases-way l = l.at
