@@ -1,5 +1,6 @@
 pub mod Gathered
 pub mod Halves
+pub mod RisingPairs
 pub mod TakenOut
 pub mod Ways
 pub mod WholeRuns

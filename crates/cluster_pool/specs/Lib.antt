@@ -1,3 +1,5 @@
 pub mod Joins
+pub mod LampLaws
+pub mod Lamps
 pub mod Results
 pub mod Walks

@@ -3,9 +3,13 @@
 #![tactic(auto)]
 
 mod joining;
+#[cfg(test)]
+mod lamps;
 mod parts;
 mod pool;
 mod running;
+#[cfg(test)]
+mod tests;
 mod walking;
 
 pub use parts::run_in_parts;
