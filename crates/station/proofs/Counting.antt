@@ -1,5 +1,5 @@
 -- Publishing events are counted alike by the lock and by the log.
-use Rattle.std.proofs.Common.{◌≡◌, ◌∙◌, ap, ℕ, ◌+◌, List, [], ◌∷◌, ◌++◌, length, refl, append-nil, arith}
+use Rattle.std.proofs.Common.{◌≡◌, ◌∙◌, ap, ◌+◌, List, [], ◌∷◌, ◌++◌, length, refl, append-nil, arith}
 use Rattle.std.specs.Prelude.{count_by, filter_map}
 use Rattle.std.proofs.lemmas.List.Elements.{filter_map-append}
 use Rattle.turn_lock.specs.Lists.{Begins}

@@ -1,5 +1,5 @@
 -- Tokens that are dealt in order.
-use Rattle.std.proofs.Common.{◌≡◌, ◌∙◌, ap, sym, subst, refl, ℕ, zero, suc, ◌+◌, ◌<◌, ◌≤◌, List, [], ◌∷◌, ◌++◌, length, map, arith, length-append}
+use Rattle.std.proofs.Common.{◌≡◌, ◌∙◌, ap, sym, subst, refl, ℕ, zero, suc, ◌+◌, ◌<◌, List, [], ◌∷◌, ◌++◌, length, map, arith, length-append}
 use Rattle.std.specs.Prelude.{Some, IsSomeAnd, slice_get}
 use Rattle.std.specs.List.{All, Any, AllByRecursion, EachIndex, range_with_len}
 use Rattle.std.proofs.lemmas.List.{length-map}

@@ -1,5 +1,5 @@
 -- What stands at the indices of a token stays there.
-use Rattle.std.proofs.Common.{◌≡◌, ◌∙◌, ◌⊎◌, sym, subst, ⊎_elim, ℕ, zero, suc, Bool, true, true≢false, List, [], ◌∷◌, ◌++◌, length}
+use Rattle.std.proofs.Common.{◌≡◌, ◌⊎◌, sym, subst, ⊎_elim, ℕ, zero, suc, Bool, true, true≢false, List, [], ◌∷◌, ◌++◌, length}
 use Rattle.turn_lock.specs.Lists.{Begins}
 use Rattle.turn_lock.proofs.Lists.{is_member-append, is_member_one}
 use Rattle.admission_log.specs.declared.events.Event.{Event}

@@ -1,5 +1,5 @@
 -- Elements of lists that are put together.
-use Rattle.std.proofs.Common.{◌≡◌, ap, refl, ℕ, zero, suc, ◌<◌, List, [], ◌∷◌, ◌++◌, map, arith}
+use Rattle.std.proofs.Common.{ap, refl, zero, suc, List, [], ◌∷◌, ◌++◌, map, arith}
 use Rattle.std.specs.List.{Any, AllByRecursion}
 
 module _ {A : Type 0} (P : A → Type 0) where

@@ -1,4 +1,4 @@
-use Rattle.std.proofs.Common.{rules, ◌≡◌, ◌∙◌, ◌<◌, ◌≤◌, ◌+◌, ◌-◌, ◌^◌, ℕ, ap, sym, length, drop, append-nil, arith, []}
+use Rattle.std.proofs.Common.{rules, ◌≡◌, ◌∙◌, ◌≤◌, ◌-◌, ap, sym, length, drop, append-nil, arith, []}
 use Rattle.trk_base.specs.Limits.{count_limit}
 use Rattle.admission_log.specs.Legality.{IsLegal}
 use Rattle.station.specs.Added.{is_of_conductor}

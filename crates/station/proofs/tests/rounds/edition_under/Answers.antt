@@ -1,5 +1,4 @@
-use Rattle.std.proofs.Common.{◌≡◌, ◌==◌, sym, subst, refl, ◌∷◌, []}
-use Rattle.std.specs.Prelude.{None}
+use Rattle.std.proofs.Common.{sym, subst, refl, ◌∷◌, []}
 use Rattle.std.specs.List.{IsDistinct}
 use Rattle.edition_form.specs.Pictures.{HaveOwnNumbers, AreEarlier}
 use Rattle.edition_form.proofs.Climbing.{no_lines}
