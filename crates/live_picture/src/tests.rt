@@ -12,8 +12,9 @@ use opening::{closed, one_radar, opened};
 use sites::{AIRCRAFT, Known, REPORTS, Served, ask};
 use std::alloc::Global;
 use std::marker::Brand;
-use std::sync::Arc;
+use std::process::Abort;
 use std::sync::ledger::{Blank, Ledger};
+use std::sync::{Arc, Wait};
 use std::test::Fail;
 use std::thread::Threads;
 use track_life::Track;
@@ -61,26 +62,33 @@ fn are_told<R: Threads + Sync, L: Ledger>(
     afresh::are_told::<R, L>(alloc, settings, START, events, &served.editions, steps)
 }
 
-#[test]
-fn editions_rise_while_sites_feed(rt: HostRuntime) -> Result<(), Fail> {
-    let alloc = rt.alloc();
+// Two sites and the conductor in threads of their own, and then the judgement of what they made.
+fn are_served<R: Threads + Wait + Sync + Abort, K: Ledger, L: Ledger>(
+    rt: &R,
+    alloc: Global,
+    counted: Steps<K>,
+    blank: Blank,
+) -> Result<(), Fail>
+    requires name { blank.name ≡ L.name }
+    requires parts { blank.parts ≡ L.parts }
+    requires one { blank.parts ≡ 1 }
+{
+    let mut steps: Steps<L> = Steps::new(blank);
     let settings = Arc::new(alloc, one_radar(alloc)?)?;
     let (station, (one, other), live) = opened(alloc, &settings)?;
-    let mut steps = Steps::<Brand>::new(Blank::new(1));
-    let counted = Steps::<Brand>::new(Blank::new(1));
-    let (served, conducted) = all_beside(&rt, alloc, &station, one, other, live, counted);
+    let (served, conducted) = all_beside(rt, alloc, &station, one, other, live, counted);
     let ((mut one, first), (mut other, second)) = served;
     let (mut live, indices) = conducted;
     let (mut first, mut second) = (first.ok_or("site")?, second.ok_or("site")?);
     let Some(mut indices) = indices else {
         return Err(Fail::from("conductor"));
     };
-    let last = round(&rt, alloc, &station, &mut live, ROUNDS + 1, &mut steps);
+    let last = round(rt, alloc, &station, &mut live, ROUNDS + 1, &mut steps);
     let (ticked, published) = last.ok_or("round")?;
     indices.push(ticked)?;
     indices.push(published)?;
-    assert!(rt; ask(&rt, &station, &mut one.1, &mut first).is_some() && is_served(&first));
-    assert!(rt; ask(&rt, &station, &mut other.1, &mut second).is_some() && is_served(&second));
+    assert!(rt; ask(rt, &station, &mut one.1, &mut first).is_some() && is_served(&first));
+    assert!(rt; ask(rt, &station, &mut other.1, &mut second).is_some() && is_served(&second));
     assert!(rt; are_all_seen(live.engine.table().tracks()));
     let closed = closed(alloc, station, one, other, live.conductor)?;
     let events = closed.events.as_slice();
@@ -88,9 +96,28 @@ fn editions_rise_while_sites_feed(rt: HostRuntime) -> Result<(), Fail> {
     assert!(rt; are_received(events, 0, &first.receipts));
     assert!(rt; are_received(events, 1, &second.receipts));
     assert!(rt; are_conducted(events, &indices));
-    let told = are_told::<HostRuntime, Brand>(alloc, &settings, events, &first, &mut steps)?;
+    let told = are_told::<R, L>(alloc, &settings, events, &first, &mut steps)?;
     assert!(rt; told);
-    let told = are_told::<HostRuntime, Brand>(alloc, &settings, events, &second, &mut steps)?;
+    let told = are_told::<R, L>(alloc, &settings, events, &second, &mut steps)?;
     assert!(rt; told);
     Ok(())
+}
+
+// The same, with a counter for the conductor's thread.
+fn are_served_beside<R: Threads + Wait + Sync + Abort, K: Ledger>(
+    rt: &R,
+    alloc: Global,
+    blank: Blank,
+) -> Result<(), Fail>
+    requires name { blank.name ≡ K.name }
+    requires parts { blank.parts ≡ K.parts }
+    requires one { blank.parts ≡ 1 }
+{
+    let counted: Steps<K> = Steps::new(blank);
+    are_served::<R, K, Brand>(rt, alloc, counted, Blank::new(1))
+}
+
+#[test]
+fn editions_rise_while_sites_feed(rt: HostRuntime) -> Result<(), Fail> {
+    are_served_beside::<_, Brand>(&rt, rt.alloc(), Blank::new(1))
 }

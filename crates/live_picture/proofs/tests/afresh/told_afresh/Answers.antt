@@ -14,19 +14,19 @@ show-requires-clause-rises g c =
     let settings = arc_value c.args.settings.now in
     let stands : StandsFor settings (record { start = c.args.start; events = [] }) 0 0 c.in_ok-engine.engine = search rules in
     let t = c.in_ok-told.ensures settings (record { start = c.args.start; events = [] }) 0 0 stands (earlier_legal settings c.args.start c.args.earlier.now c.args.later.now c.requires.legal c.in_ok-engine.engine stands) in
-    rises settings c.args.start c.args.earlier.now c.args.later.now c.requires.legal c.in_ok-engine.engine stands c.args.number c.advance.new.engine c.in_ok-told.told t c.len.result c.len.ensures
+    rises settings c.args.start c.args.earlier.now c.args.later.now c.requires.legal c.in_ok-engine.engine stands c.args.number c.advance.new.engine c.in_ok-told.told t _ (search rules)
 
 pub show-requires-clause-within : goal.show-requires-clause-within
 show-requires-clause-within g c =
     let settings = arc_value c.args.settings.now in
     let stands : StandsFor settings (record { start = c.args.start; events = [] }) 0 0 c.in_ok-engine.engine = search rules in
     let t = c.in_ok-told.ensures settings (record { start = c.args.start; events = [] }) 0 0 stands (earlier_legal settings c.args.start c.args.earlier.now c.args.later.now c.requires.legal c.in_ok-engine.engine stands) in
-    within settings c.args.start c.args.earlier.now c.args.later.now c.requires.legal c.in_ok-engine.engine stands c.args.number c.advance.new.engine c.in_ok-told.told t c.len.result c.len.ensures
+    within settings c.args.start c.args.earlier.now c.args.later.now c.requires.legal c.in_ok-engine.engine stands c.args.number c.advance.new.engine c.in_ok-told.told t _ (search rules)
 
-pub advance-requires-clause-continues-2 : goal.advance-requires-clause-continues-2
-advance-requires-clause-continues-2 g c κs within' =
+pub advance-requires-2-clause-continues : goal.advance-requires-2-clause-continues
+advance-requires-2-clause-continues g c κs within' =
     let settings = arc_value c.args.settings.now in
     let stands : StandsFor settings (record { start = c.args.start; events = [] }) 0 0 c.in_ok-engine.engine = search rules in
     let t = c.in_ok-told.ensures settings (record { start = c.args.start; events = [] }) 0 0 stands (earlier_legal settings c.args.start c.args.earlier.now c.args.later.now c.requires.legal c.in_ok-engine.engine stands) in
-    takes_second settings c.args.start c.args.earlier.now c.args.later.now c.requires.legal c.in_ok-engine.engine stands c.args.number c.advance.new.engine c.in_ok-told.told t c.len.result c.len.ensures c.show.new.self
+    takes_second settings c.args.start c.args.earlier.now c.args.later.now c.requires.legal c.in_ok-engine.engine stands c.args.number c.advance.new.engine c.in_ok-told.told t _ (search rules) c.show.new.self
     (λ settings log settled before now are. c.show.ensures settings log settled before now (c.into_vec.ensures ∙ are))

@@ -1,0 +1,4 @@
+use Rattle.live_picture.proofs.tests.are_served_beside.Given as goal
+
+abbrev pub ghosts-are_served : goal.ghosts-are_served
+ghosts-are_served g a = record { name = a.blank.name; parts = a.blank.parts }
