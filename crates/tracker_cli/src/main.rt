@@ -19,6 +19,18 @@ use trk_base::Steps;
 /// The line of want of memory, which needs no memory itself.
 const NO_MEMORY: &[u8] = b"no memory\n";
 
+/// How much room is asked for and given back at the start, in octets. It is never touched, so it takes
+/// no memory.
+const LARGEST_ROOM: usize = 32_000_000;
+
+// Has the allocator of the C library keep what is given back to it. It learns from the largest room
+// that came back whole: of up to twice as much at the end of the heap it returns nothing to the
+// system (mallopt(3), M_MMAP_THRESHOLD). Else it returns, after each tick, the tables of the slots
+// that late plots reopened, and has to be given them anew, page by page.
+fn keep_returned_memory(alloc: Global) {
+    drop(Vec::<u8>::with_capacity(alloc, LARGEST_ROOM));
+}
+
 // The words behind the program's name. One that isn't UTF-8 is in no command, as no words are none.
 fn words<R: Env + Alloc<A = Global>>(rt: &R) -> Result<Vec<String>, Status> {
     match env::args(rt) {
@@ -71,6 +83,7 @@ fn tell_no_memory<R: Files + Print + Clone + Drop>(rt: R) -> Status {
 }
 
 fn main(rt: HostRuntime) -> ExitCode {
+    keep_returned_memory(rt.alloc());
     let status = match words(&rt) {
         Ok(words) => match rt.clone() {
             Ok(files) => carry_out::<HostRuntime, Brand>(&rt, &words, files, Blank::new(1)),
