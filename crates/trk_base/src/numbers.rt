@@ -1,6 +1,8 @@
 // Whole numbers: rounding, roots, and the piecewise linear power of two.
-ghost use Rattle.std.specs.Prelude.{◌≡◌, ◌^◌, ◌<◌, ◌≤◌, ℕ, pos, ◌<ℤ◌, unsigned_abs};
+ghost use Rattle.std.specs.Prelude.{◌≡◌, ◌^◌, ◌<◌, ◌≤◌, ℕ, pos, ◌<ℤ◌, unsigned_abs, IsTrue};
 ghost use Rattle.trk_base.specs.Numbers.{round, isqrt, IsRoot, exp2_lin};
+
+use std::num::{nearest_u64_to_f64, saturating_f64_to_u64};
 
 /// `a / b`, rounded to the nearest whole number, halves upwards: -1 / 2 is 0, and 1 / 2 is 1.
 #[inline]
@@ -13,7 +15,7 @@ pub fn round_div(a: i128, b: i128) -> i128
     (2 * a + b).div_euclid(2 * b)
 }
 
-/// The greatest whole number whose square is at most `n`, by Newton's method.
+/// The greatest whole number whose square is at most `n`.
 #[inline]
 pub fn isqrt(n: u128) -> u64
     ensures value { result ≡ isqrt n }
@@ -26,9 +28,31 @@ pub fn isqrt(n: u128) -> u64
     }
 }
 
-// The root of a number of 64 bits. It begins with the power of two next below the root: the first
-// step of Newton's method from there takes no division, and three more are enough.
+// The root of a number of 64 bits. That of the nearest floating-point number, which the processor
+// finds faster than two divisions take, is nearly always the one, and its square shows it.
 fn root_of_64(n: u64) -> u64
+    ensures root { IsRoot n result }
+    ensures small { result < 2 ^ 32 }
+{
+    let near = saturating_f64_to_u64(nearest_u64_to_f64(n).sqrt());
+    if is_root(n, near) {
+        near
+    } else {
+        root_by_steps(n)
+    }
+}
+
+// Whether this is the root of a number.
+fn is_root(n: u64, root: u64) -> bool
+    ensures root { IsTrue result → IsRoot n root }
+    ensures small { IsTrue result → root < 2 ^ 32 }
+{
+    root <= u64::from(u32::MAX) && root * root <= n && n - root * root <= 2 * root
+}
+
+// The root by Newton's method. It begins with the power of two next below the root: the first step
+// from there takes no division, and three more are enough.
+fn root_by_steps(n: u64) -> u64
     ensures root { IsRoot n result }
     ensures small { result < 2 ^ 32 }
 {

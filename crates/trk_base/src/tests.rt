@@ -33,6 +33,10 @@ fn takes_roots(rt: HostRuntime) {
         (4, 2),
         (99, 9),
         (100, 10),
+        // The floating-point number next to it has a root that is one greater.
+        (94_906_267 * 94_906_267 - 1, 94_906_266),
+        (0xFFFF_FFFF * 0xFFFF_FFFF - 1, 0xFFFF_FFFE),
+        (0xFFFF_FFFF * 0xFFFF_FFFF, 0xFFFF_FFFF),
         ((1 << 64) - 1, 0xFFFF_FFFF),
         (1 << 64, 1 << 32),
         (greatest * greatest - 1, 0xFFFF_FFFF_FFFF_FFFE),

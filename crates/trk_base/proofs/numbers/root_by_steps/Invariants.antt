@@ -1,5 +1,5 @@
 use Rattle.std.proofs.Common.{◌<◌, ◌+◌, ◌*◌, ◌^◌}
-use Rattle.trk_base.proofs.numbers.root_of_64.Given as goal
+use Rattle.trk_base.proofs.numbers.root_by_steps.Given as goal
 
 abbrev pub invariant-loop-root : goal.invariant-loop-root
 invariant-loop-root l = (l.n < (l.root + 1) * (l.root + 1)) × (l.root < 2 ^ 32)

@@ -2,7 +2,7 @@ use Rattle.std.proofs.Common.{◌-◌, ◌/◌, ◌^◌, arith}
 use Rattle.std.proofs.lemmas.Nat.{pow_pos}
 use lib.Count.{count_leading_zeros}
 use Rattle.trk_base.proofs.Newton.{begins_64, step_above, step_below, some_root}
-use Rattle.trk_base.proofs.numbers.root_of_64.Goals as goal
+use Rattle.trk_base.proofs.numbers.root_by_steps.Goals as goal
 
 pub overflow_add-root : goal.overflow_add-root
 overflow_add-root c =
