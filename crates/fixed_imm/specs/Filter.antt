@@ -1,11 +1,11 @@
 -- The filter of one axis: an interacting multiple model estimator with two models (Bar-Shalom, 11.6.6).
 -- Model 0 flies on steadily, with little noise; model 1 manoeuvres.
-use Rattle.std.specs.Prelude.{ℕ, ◌+◌, ◌*◌, ℤ, pos}
+use Rattle.std.specs.Prelude.{ℕ, ◌+◌, ◌*◌, ℤ, pos, ◌≤ℤ◌, unsigned_abs}
 use Rattle.trk_base.specs.Numbers.{round}
 use Rattle.fixed_imm.specs.declared.motion.Motion.{Motion}
 use Rattle.fixed_imm.specs.Values.{AxisState}
 use Rattle.fixed_imm.specs.Constants.{first_velocity_variance, first_weights, steady_to_steady, steady_to_manoeuvre, manoeuvre_to_steady, manoeuvre_to_manoeuvre, steady_noise, manoeuvre_noise}
-use Rattle.fixed_imm.specs.Bounds.{weights}
+use Rattle.fixed_imm.specs.Bounds.{weights, IsTimeStep}
 use Rattle.fixed_imm.specs.Mixing.{share, mixed, overall}
 use Rattle.fixed_imm.specs.Prediction.{predicted_motion}
 use Rattle.fixed_imm.specs.Correction.{innovation, innovation_variance, corrected, likelihood, posterior_weights}
@@ -46,6 +46,11 @@ together a = overall (pos a.weight.0) a.motion.0 a.motion.1
 -- the same, d units of 1/128 s later
 unfoldable pub combined : AxisState → ℤ → ℤ × ℤ × ℤ
 combined a d = together (predicted a d)
+
+-- between these two lies the position of both models together at any time at most span units of 1/128 s before or after
+pub record IsExtent (a : AxisState) (span : ℤ) (extent : ℤ × ℤ) : Type 0 where
+  pub least : (d : ℤ) → IsTimeStep d → pos (unsigned_abs d) ≤ℤ span → extent.0 ≤ℤ (combined a d).0
+  pub greatest : (d : ℤ) → IsTimeStep d → pos (unsigned_abs d) ≤ℤ span → (combined a d).0 ≤ℤ extent.1
 
 -- a model after a measurement
 unfoldable pub corrected_model : Motion → ℤ → ℕ → Motion

@@ -41,11 +41,12 @@ impl Model for Axis {
 }
 
 impl Axis {
-    ghost use Rattle.std.specs.Prelude.{◌≡◌, ◌≤◌, unsigned_abs};
+    ghost use Rattle.std.specs.Prelude.{◌≡◌, ◌≤◌, ◌^◌, pos, unsigned_abs};
     ghost use Rattle.trk_base.specs.Limits.{plane_bound};
-    ghost use Rattle.fixed_imm.specs.Constants.{velocity_bound};
+    ghost use Rattle.trk_base.specs.Numbers.{IsBetween};
+    ghost use Rattle.fixed_imm.specs.Constants.{velocity_bound, greatest_time_step};
     ghost use Rattle.fixed_imm.specs.Bounds.{IsAxis, IsBounded, IsCombinedVariance, IsTimeStep, IsPosition, IsVariance};
-    ghost use Rattle.fixed_imm.specs.Filter.{started, mixed_model, mixed_axis, predicted, combined, updated};
+    ghost use Rattle.fixed_imm.specs.Filter.{started, mixed_model, mixed_axis, predicted, combined, updated, IsExtent};
 
     /// The axis of a target that was seen for the first time, at the position `z` in 1/64 m with
     /// the variance `r`.
@@ -116,6 +117,26 @@ impl Axis {
         self.mixed().combined(d)
     }
 
+    /// The least and the greatest position, in 1/64 m, that both models together can have at any
+    /// time at most `span` units of 1/128 s before or after.
+    ///
+    /// It takes no mixing: no mean lies outside of what it is of, so neither model starts outside of
+    /// both positions, nor flies faster than the faster of both.
+    pub fn extent(&self, span: i32) -> (i64, i64)
+        requires { IsBetween (pos 0) span greatest_time_step }
+        ensures extent { IsExtent self.now span result }
+        ensures least { unsigned_abs result.0 ≤ 2 ^ 28 }
+        ensures greatest { unsigned_abs result.1 ≤ 2 ^ 28 }
+    {
+        let (steady, manoeuvre) = (&self.motion.0, &self.motion.1);
+        let speed = steady.v.unsigned_abs().max(manoeuvre.v.unsigned_abs());
+        let margin = (speed * u64::from(span.unsigned_abs()) / 2_048) as i64 + 1;
+        (
+            steady.p.min(manoeuvre.p) - margin,
+            steady.p.max(manoeuvre.p) + margin,
+        )
+    }
+
     /// The axis after a position `z` in 1/64 m was measured with the variance `r`, `d` units of
     /// 1/128 s later.
     pub fn update(&self, d: i32, z: i64, r: u64) -> Axis
@@ -166,6 +187,14 @@ mod tests {
             (mixed.time, mixed.address, mixed.code),
             (4_608_000, None, None)
         );
+    }
+
+    #[test]
+    fn bounds_where_it_may_be(rt: HostRuntime) {
+        let axis = Axis::start(0, 10_240_000).update(512, 64_000, 10_240_000);
+        assert_eq!(rt; axis.extent(0), (63_888, 63_890));
+        assert_eq!(rt; axis.extent(128), (47_936, 79_842));
+        assert_eq!(rt; axis.combined(128).0, 79_836);
     }
 
     #[test]
