@@ -6,4 +6,5 @@ pub mod Squares
 pub mod Means
 pub mod Covariances
 pub mod Laws
+pub mod Extents
 pub mod Worked

@@ -1,5 +1,5 @@
 -- Mixtures stay within the bounds of what they mix.
-use Rattle.std.proofs.Common.{◌≡◌, ℕ, suc, ◌+◌, ◌-◌, ◌*◌, ◌/◌, ◌^◌, ◌<◌, ◌≤◌, ℤ, pos, negsuc, neg_ℤ, ◌+ℤ◌, ◌-ℤ◌, ◌*ℤ◌, ◌≤ℤ◌, inl, inr, arith, refl, ap}
+use Rattle.std.proofs.Common.{◌≡◌, ℕ, suc, ◌+◌, ◌-◌, ◌*◌, ◌/◌, ◌^◌, ◌<◌, ◌≤◌, ℤ, pos, negsuc, neg_ℤ, ◌+ℤ◌, ◌-ℤ◌, ◌*ℤ◌, ◌≤ℤ◌, inl, inr, arith, refl, ap, subst}
 use Rattle.std.specs.Prelude.{unsigned_abs}
 use Rattle.std.specs.Int.{int_div_euclid}
 use Rattle.std.proofs.lemmas.Int.{ints}
@@ -36,6 +36,20 @@ pub mean_within : (g x0 x1 : ℤ) (m : ℕ) → IsBetween (pos 0) g (pos 65536) 
 unfolding mean
 mean_within (pos k) x0 x1 m h first second = mean_by k x0 x1 (x0 -ℤ x1) m (omega (arith, ints, h.to)) refl first second
 mean_within (negsuc k) x0 x1 m h first second = absurd (omega (arith, ints, h.from))
+
+between_by : (k : ℕ) (x0 x1 d low high : ℤ) → k ≤ 65536 → x0 -ℤ x1 ≡ d → IsBetween low x0 high → IsBetween low x1 high → IsBetween low (x1 +ℤ round (pos k *ℤ d) (pos 65536)) high
+between_by k x0 x1 (pos n) low high h e first second =
+    let part = part_up k n h in
+    record { from = omega (arith, ints, part.from, second.from); to = omega (arith, ints, part.to, first.to) }
+between_by k x0 x1 (negsuc n) low high h e first second =
+    let part = part_down k (suc n) h in
+    record { from = omega (arith, ints, part.from, first.from); to = omega (arith, ints, part.to, second.to) }
+
+-- and lies between both
+pub mean_between : (g x0 x1 low high : ℤ) → IsBetween (pos 0) g (pos 65536) → IsBetween low x0 high → IsBetween low x1 high → IsBetween low (mean g x0 x1) high
+unfolding mean
+mean_between (pos k) x0 x1 low high h first second = between_by k x0 x1 (x0 -ℤ x1) low high (omega (arith, ints, h.to)) refl first second
+mean_between (negsuc k) x0 x1 low high h first second = absurd (omega (arith, ints, h.from))
 
 -- variances by their weights k and h
 weighted_low : (k h a b : ℕ) → k + h ≡ 65536 → 1 ≤ a → 1 ≤ b → 65536 ≤ k * a + h * b
@@ -100,3 +114,8 @@ pub share_size : (a b : ℕ) → 0 < a + b → (131072 * a + (a + b)) / (2 * (a 
 share_size a b some =
     let twice : 131072 * a + (a + b) ≡ 2 * (65536 * a) + (a + b) = omega arith in
     rw twice (round_pos_share (65536 * a) (a + b) 65536 some (omega arith))
+
+pub share_part : (a b : ℕ) → 0 < a + b → IsBetween (pos 0) (share a b) (pos 65536)
+share_part a b some =
+    let most : (131072 * a + (a + b)) / (2 * (a + b)) ≤ 65536 = share_size a b some in
+    subst (λ z. IsBetween (pos 0) z (pos 65536)) (share_is a b) (record { from = omega (arith, ints); to = omega (arith, ints) })
