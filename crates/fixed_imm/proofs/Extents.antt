@@ -9,7 +9,7 @@ use Rattle.trk_base.specs.Numbers.{clamp, round, IsBetween}
 use Rattle.trk_base.proofs.Sizes.{Is, is_pos, is_add, is_sub, round_size}
 use Rattle.fixed_imm.specs.declared.motion.Motion.{Motion}
 use Rattle.fixed_imm.specs.Values.{AxisState}
-use Rattle.fixed_imm.specs.Bounds.{bounded, IsBounded, IsAxis, IsTimeStep, IsWeights}
+use Rattle.fixed_imm.specs.Bounds.{bounded, IsBounded, IsAxis, IsWeights}
 use Rattle.fixed_imm.specs.Mixing.{mean, mixed, overall}
 use Rattle.fixed_imm.specs.Prediction.{predicted_p, predicted_motion}
 use Rattle.fixed_imm.specs.Filter.{mixed_model, mixed_axis, moved, predicted, together, combined, IsExtent}

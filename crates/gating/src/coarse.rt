@@ -2,7 +2,6 @@
 ghost use Rattle.std.specs.Prelude.{◌↔◌, pos, IsTrue};
 ghost use Rattle.trk_base.specs.Numbers.{IsBetween};
 ghost use Rattle.fixed_imm.specs.Constants.{greatest_time_step};
-ghost use Rattle.fixed_imm.specs.Bounds.{IsPosition};
 ghost use Rattle.gating.specs.Coarse.{IsIn, IsCoarseGate};
 
 use crate::gates::REACH;
@@ -21,6 +20,13 @@ pub struct CoarseGate {
     pub south: i64,
     /// The greatest position to the north.
     pub north: i64,
+}
+
+// Whether `x` is neither below `least` nor above `greatest`.
+fn is_between(least: i64, x: i64, greatest: i64) -> bool
+    ensures { IsTrue result ↔ IsBetween least x greatest }
+{
+    least <= x && x <= greatest
 }
 
 impl CoarseGate {
@@ -45,12 +51,20 @@ impl CoarseGate {
     pub fn contains(&self, plot: &PlanePlot) -> bool
         ensures { IsTrue result ↔ IsIn self.now plot.now }
     {
-        self.west <= plot.x && plot.x <= self.east && self.south <= plot.y && plot.y <= self.north
+        let CoarseGate {
+            west,
+            east,
+            south,
+            north,
+        } = *self;
+        is_between(west, plot.x, east) && is_between(south, plot.y, north)
     }
 }
 
 #[cfg(test)]
 mod tests {
+    ghost use Rattle.fixed_imm.specs.Bounds.{IsPosition};
+
     use super::*;
     use fixed_imm::Axis;
     use trk_base::Key;
