@@ -1,12 +1,12 @@
 -- How large the values of a model are, as the code reads them.
-use Rattle.std.proofs.Common.{◌≡◌, ℕ, ◌+◌, ◌*◌, ◌≤◌, ◌^◌, ℤ, pos, ◌+ℤ◌, ◌-ℤ◌, ◌*ℤ◌, ◌<ℤ◌, arith}
+use Rattle.std.proofs.Common.{◌≡◌, ℕ, ◌+◌, ◌*◌, ◌≤◌, ◌^◌, ℤ, pos, ◌+ℤ◌, ◌-ℤ◌, ◌*ℤ◌, ◌≤ℤ◌, ◌<ℤ◌, arith}
 use Rattle.std.specs.Int.{w64, cast_signed, cast_unsigned}
 use Rattle.std.specs.Prelude.{unsigned_abs}
 use Rattle.std.proofs.Math.Nat.{le_trans}
 use Rattle.std.proofs.lemmas.Int.{ints, to_z_pos, unsigned_abs-mul}
 use Rattle.std.proofs.lemmas.Nat.{mul-le}
 use Rattle.trk_base.specs.Numbers.{IsBetween}
-use Rattle.trk_base.proofs.Sizes.{Is, is_pos, is_add}
+use Rattle.trk_base.proofs.Sizes.{Is, is_var, is_pos, is_add}
 use Rattle.trk_base.proofs.Roots.{square_le}
 use Rattle.fixed_imm.specs.declared.motion.Motion.{Motion}
 use Rattle.fixed_imm.specs.Bounds.{IsBounded}
@@ -72,12 +72,18 @@ inside_of {g} q0 q1 h first second =
       within = parts_size g (pos 65536 -ℤ g) q0 q1 whole first second;
     }
 
--- a variance as a divisor
+-- a variance as a divisor, and as the code reads that
 pub divisor_of : {s : ℤ} → IsBetween (pos 1) s (pos (2 ^ 47)) → Is (read s) s (2 ^ 47)
 divisor_of {s} h = var64 s (2 ^ 47) (size_from_range h) tt
 
-pub positive_from_range : {s : ℤ} {m : ℕ} → IsBetween (pos 1) s (pos m) → pos 0 <ℤ s
-positive_from_range {s} h = omega (arith, ints, h.from)
+pub by_of : {s : ℤ} → pos 1 ≤ℤ s → s ≤ℤ pos (2 ^ 47) → Is s s (2 ^ 47)
+by_of {s} low high = is_var (2 ^ 47) (size_from_range {x = s} (record { from = low; to = high }))
+
+pub by_read : {s : ℤ} → pos 1 ≤ℤ s → s ≤ℤ pos (2 ^ 47) → Is (read s) s (2 ^ 47)
+by_read {s} low high = divisor_of (record { from = low; to = high })
+
+pub positive_by : {s : ℤ} → pos 1 ≤ℤ s → pos 0 <ℤ s
+positive_by {s} low = omega (arith, ints, low)
 
 -- a number without a sign, as one with one
 pub unsigned_of : (n : ℕ) → n ≤ 2 ^ 46 → Is (cast_signed w64 n) (pos n) (2 ^ 46)

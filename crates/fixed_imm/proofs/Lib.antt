@@ -2,6 +2,7 @@ pub mod Narrow
 pub mod Fields
 pub mod Gains
 pub mod Quotients
+pub mod Reciprocals
 pub mod Squares
 pub mod Means
 pub mod Covariances

@@ -6,8 +6,8 @@ ghost use Rattle.fixed_imm.specs.Correction.{raised, lowered, corrected, likelih
 ghost use Rattle.fixed_imm.specs.Filter.{corrected_model, model_likelihood};
 
 use crate::Motion;
+use crate::dividing::{Divisor, quotient};
 use crate::motion::bounded;
-use crate::rounding::round_wide;
 use trk_base::{exp2_lin, isqrt};
 
 // 65,536 / (2 ln 2): what makes of e² / s the power of two of e^(-e² / 2s), in 1/65,536.
@@ -17,36 +17,33 @@ const EXPONENT_SCALE: i64 = 47_274;
 const IMPOSSIBLE_EXPONENT: i128 = 31 * 65_536;
 
 // `x`, and what the gain `a / s` makes of `b`.
-fn raised(x: i64, a: i64, b: i64, s: i64) -> i64
+fn raised(x: i64, a: i64, b: i64, s: &Divisor) -> i64
     requires value { unsigned_abs x ≤ 2 ^ 46 }
     requires first { unsigned_abs a ≤ 2 ^ 46 }
     requires second { unsigned_abs b ≤ 2 ^ 46 }
-    requires variance { IsBetween (pos 1) s (pos (2 ^ 47)) }
-    requires gain { unsigned_abs a * unsigned_abs b ≤ 2 ^ 52 * unsigned_abs s }
-    ensures { result ≡ raised x a b s }
+    requires gain { unsigned_abs a * unsigned_abs b ≤ 2 ^ 52 * unsigned_abs s.now.by }
+    ensures { result ≡ raised x a b s.now.by }
 {
-    x + round_wide(a as i128 * b as i128, s) as i64
+    x + s.round(a as i128 * b as i128) as i64
 }
 
 // `x` less what the gain `a / s` makes of `b`.
-fn lowered(x: i64, a: i64, b: i64, s: i64) -> i64
+fn lowered(x: i64, a: i64, b: i64, s: &Divisor) -> i64
     requires value { unsigned_abs x ≤ 2 ^ 46 }
     requires first { unsigned_abs a ≤ 2 ^ 46 }
     requires second { unsigned_abs b ≤ 2 ^ 46 }
-    requires variance { IsBetween (pos 1) s (pos (2 ^ 47)) }
-    requires gain { unsigned_abs a * unsigned_abs b ≤ 2 ^ 52 * unsigned_abs s }
-    ensures { result ≡ lowered x a b s }
+    requires gain { unsigned_abs a * unsigned_abs b ≤ 2 ^ 52 * unsigned_abs s.now.by }
+    ensures { result ≡ lowered x a b s.now.by }
 {
-    x - round_wide(a as i128 * b as i128, s) as i64
+    x - s.round(a as i128 * b as i128) as i64
 }
 
 // The model after an innovation `e` with the variance `s`, which is no less than the model's own.
-fn corrected(m: &Motion, e: i64, s: i64) -> Motion
+fn corrected(m: &Motion, e: i64, s: &Divisor) -> Motion
     requires bounds { IsBounded m.now }
     requires innovation { unsigned_abs e ≤ 2 ^ 29 }
-    requires variance { IsBetween (pos 1) s (pos (2 ^ 47)) }
-    requires no_less { m.now.p11 ≤ℤ s }
-    ensures value { result ≡ corrected m.now e s }
+    requires no_less { m.now.p11 ≤ℤ s.now.by }
+    ensures value { result ≡ corrected m.now e s.now.by }
     ensures bounds { IsBounded result }
 {
     bounded(
@@ -60,15 +57,15 @@ fn corrected(m: &Motion, e: i64, s: i64) -> Motion
 
 // How likely an innovation `e` with the variance `s` is: its Gaussian density, but for a factor
 // that all have.
-fn likelihood(e: i64, s: i64) -> u64
+fn likelihood(e: i64, s: &Divisor) -> u64
     requires innovation { unsigned_abs e ≤ 2 ^ 29 }
-    requires variance { IsBetween (pos 1) s (pos (2 ^ 47)) }
-    ensures value { result ≡ likelihood e s }
+    ensures value { result ≡ likelihood e s.now.by }
     ensures size { result ≤ 2 ^ 62 }
 {
     let squared = (EXPONENT_SCALE * e) as i128 * e as i128;
-    let exponent = round_wide(squared, s).min(IMPOSSIBLE_EXPONENT);
-    exp2_lin(exponent as u64) as u64 * (1 << 32) / isqrt(s as u128).max(1)
+    let exponent = s.round(squared).min(IMPOSSIBLE_EXPONENT);
+    let power = exp2_lin(exponent as u64) as u64 * (1 << 32);
+    quotient(power, isqrt(s.by as u128).max(1))
 }
 
 // The predicted model after a position `z` was measured with the variance `r`, and how likely that
@@ -83,9 +80,9 @@ pub(crate) fn corrected_model(m: &Motion, z: i64, r: u64) -> (Motion, u64)
     ensures size { result.1 ≤ 2 ^ 62 }
 {
     let innovation = z - m.p;
-    let variance = m.p11 + r as i64;
+    let variance = Divisor::new(m.p11 + r as i64);
     (
-        corrected(m, innovation, variance),
-        likelihood(innovation, variance),
+        corrected(m, innovation, &variance),
+        likelihood(innovation, &variance),
     )
 }

@@ -9,6 +9,7 @@
 mod aim;
 mod axis;
 mod correcting;
+mod dividing;
 mod mixed;
 mod mixing;
 mod modes;

@@ -5,6 +5,7 @@ ghost use Rattle.fixed_imm.specs.Bounds.{IsBounded};
 ghost use Rattle.fixed_imm.specs.Mixing.{share, mean, covariance, mixed};
 
 use crate::Motion;
+use crate::dividing::quotient;
 use crate::motion::bounded;
 use crate::rounding::{round_shift, round_shift_wide};
 
@@ -17,7 +18,7 @@ pub(crate) fn share(a: u64, b: u64) -> i64
     ensures part { IsBetween (pos 0) result (pos 65536) }
 {
     let sum = a + b;
-    ((131_072 * a + sum) / (2 * sum)) as i64
+    quotient(131_072 * a + sum, 2 * sum) as i64
 }
 
 // The mean of two values, where the first has the weight `g` in 1/65,536.

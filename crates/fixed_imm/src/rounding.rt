@@ -2,8 +2,6 @@
 ghost use Rattle.std.specs.Prelude.{◌≡◌, ◌≤◌, ◌^◌, pos, unsigned_abs};
 ghost use Rattle.trk_base.specs.Numbers.{round, IsBetween};
 
-use trk_base::round_div;
-
 // `a` divided by 2 to the power of `digits`.
 #[inline]
 pub(crate) fn round_shift(a: i64, digits: u32) -> i64
@@ -34,18 +32,4 @@ pub(crate) fn round_narrow(a: i64, b: i64) -> i64
     ensures { result ≡ round a b }
 {
     (2 * a + b).div_euclid(2 * b)
-}
-
-// `a / b`, in 64 bits where `a` is small enough, as it nearly always is.
-#[inline]
-pub(crate) fn round_wide(a: i128, b: i64) -> i128
-    requires divisor { IsBetween (pos 1) b (pos (2 ^ 47)) }
-    requires small { unsigned_abs a ≤ 2 ^ 120 }
-    ensures { result ≡ round a b }
-{
-    if a.unsigned_abs() <= 1 << 61 {
-        round_narrow(a as i64, b) as i128
-    } else {
-        round_div(a, b as i128)
-    }
 }

@@ -1,11 +1,12 @@
 // The weights of both models.
-ghost use Rattle.std.specs.Prelude.{◌≡◌, ◌≤◌, ◌<◌, ◌+◌, ◌^◌, pos};
+ghost use Rattle.std.specs.Prelude.{◌≡◌, ◌≤◌, ◌<◌, ◌+◌, ◌/◌, ◌^◌, pos};
 ghost use Rattle.trk_base.specs.Numbers.{IsBetween};
 ghost use Rattle.fixed_imm.specs.Bounds.{weights, IsWeights};
 ghost use Rattle.fixed_imm.specs.Correction.{posterior_weights};
 ghost use Rattle.fixed_imm.specs.Filter.{predicted_weights};
 ghost use Rattle.fixed_imm.specs.Mixing.{share};
 
+use crate::dividing::near_quotient;
 use crate::modes::STEADY;
 use crate::rounding::round_shift;
 
@@ -57,5 +58,20 @@ fn posterior_share(a: u128, b: u128) -> i64
     ensures { result ≡ share a b }
 {
     let sum = a + b;
-    ((131_072 * a + sum) / (2 * sum)) as i64
+    share_of(131_072 * a + sum, 2 * sum) as i64
+}
+
+// `a / b`, where it is no more than 65,536: the leading 64 of up to 98 digits are enough to guess it.
+fn share_of(a: u128, b: u128) -> u128
+    requires some { 0 < b }
+    requires first { a < 2 ^ 98 }
+    requires second { b < 2 ^ 82 }
+    ensures { result ≡ a / b }
+{
+    let near = u128::from(near_quotient((a >> 34) as u64, (b >> 34) as u64));
+    if near <= 65_536 && near * b <= a && a - near * b < b {
+        near
+    } else {
+        a / b
+    }
 }

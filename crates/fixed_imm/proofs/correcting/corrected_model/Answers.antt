@@ -9,12 +9,12 @@ pub returns-clause-value : goal.returns-clause-value
 unfolding corrected_model
 returns-clause-value c =
     let e = (minus64 (var64 c.args.z 256000000 c.requires.position tt) (p_of _ c.requires.bounds) tt).same in
-    let s = (plus64 (p11_of _ c.requires.bounds) (unsigned_of c.args.r c.requires.variance.to) tt).same in
+    let s = c.new-variance.ensures ∙ (plus64 (p11_of _ c.requires.bounds) (unsigned_of c.args.r c.requires.variance.to) tt).same in
     c.corrected.ensures.value ∙ (λ j. corrected c.args.m.now (e j) (s j))
 
 pub returns-clause-likelihood : goal.returns-clause-likelihood
 unfolding model_likelihood
 returns-clause-likelihood c =
     let e = (minus64 (var64 c.args.z 256000000 c.requires.position tt) (p_of _ c.requires.bounds) tt).same in
-    let s = (plus64 (p11_of _ c.requires.bounds) (unsigned_of c.args.r c.requires.variance.to) tt).same in
+    let s = c.new-variance.ensures ∙ (plus64 (p11_of _ c.requires.bounds) (unsigned_of c.args.r c.requires.variance.to) tt).same in
     c.likelihood.ensures.value ∙ (λ j. likelihood (e j) (s j))

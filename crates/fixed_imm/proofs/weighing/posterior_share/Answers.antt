@@ -1,4 +1,4 @@
-use Rattle.std.proofs.Common.{◌∙◌, arith, rules}
+use Rattle.std.proofs.Common.{◌∙◌, ◌≤◌, ap, arith, pos, rules}
 use Rattle.std.specs.Int.{w64}
 use Rattle.std.proofs.lemmas.Int.{to_z_pos}
 use Rattle.fixed_imm.proofs.Means.{share_is, share_size}
@@ -6,10 +6,10 @@ use Rattle.fixed_imm.proofs.weighing.posterior_share.Goals as goal
 
 pub overflow_cast-result : goal.overflow_cast-result
 overflow_cast-result c =
-    let size = share_size c.args.a c.args.b c.requires.some in
+    let size : c.share_of.result ≤ 65536 = omega (arith, c.share_of.ensures, share_size c.args.a c.args.b c.requires.some) in
     search rules
 
 pub returns : goal.returns
 returns c =
-    let size = share_size c.args.a c.args.b c.requires.some in
-    to_z_pos w64 _ (omega (arith, size)) ∙ share_is c.args.a c.args.b
+    let size : c.share_of.result ≤ 65536 = omega (arith, c.share_of.ensures, share_size c.args.a c.args.b c.requires.some) in
+    to_z_pos w64 c.share_of.result (omega (arith, size)) ∙ ap pos c.share_of.ensures ∙ share_is c.args.a c.args.b
