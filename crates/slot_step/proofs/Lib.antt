@@ -25,6 +25,7 @@ pub mod Batched
 pub mod Running
 pub mod Cutting
 pub mod Counted
-pub mod Skipping
 pub mod Looking
 pub mod Marking
+pub mod Places
+pub mod Covering

@@ -9,7 +9,7 @@ use Rattle.plot_geometry.specs.Plots.{PlanePlot}
 use Rattle.gating.specs.Gating.{differ, is_another}
 use Rattle.track_life.specs.Tracks.{TrackState}
 use Rattle.slot_step.specs.Certificates.{IsAt}
-use Rattle.slot_step.specs.Candidates.{HasOther, AreMarked, may_gate}
+use Rattle.slot_step.specs.PlotPlaces.{HasOther, AreMarked}
 use Rattle.slot_step.proofs.Problems.{one_at}
 
 -- the first i plots have their places marked
@@ -49,16 +49,8 @@ one_marked ps i marks q b h at e =
 pub marked_to_end : (ps : List PlanePlot) (i : ℕ) (marks : List Bool) → AreMarkedUpTo ps i marks → ((j : ℕ) (p : PlanePlot) → IsAt ps j p → j < i) → AreMarked ps marks
 marked_to_end ps i marks h end = record { count = h.count; others = λ a f j p at. h.others a f j p at (end j p at) }
 
--- a track with an address that no plot has gates none
-both_false : (x y : Bool) → x ≡ false → y ≡ false → (x || y) ≡ false
-both_false x y e h = ap (λ b. b || y) e ∙ h
-
-other_is : (address : Option ℕ) (code : Option ℕ) (p : PlanePlot) (a : ℕ) → address ≡ Some a → HasOther a p → is_another address code p ≡ true
+-- a plot with another address is of another aircraft
+pub other_is : (address : Option ℕ) (code : Option ℕ) (p : PlanePlot) (a : ℕ) → address ≡ Some a → HasOther a p → is_another address code p ≡ true
 other_is address code p a e h =
     let differs : differ address p.address ≡ true = (λ i. differ (e i) (h.told i)) ∙ ap not (ne_eqb a h.own (λ s. h.other (sym s))) in
     or_left (differ address p.address) (differ code p.code && not (is_some address && is_some p.address)) differs
-
-pub may_gate_none : (t : TrackState) (ps : List PlanePlot) (a : ℕ) → t.aim.address ≡ Some a → ((j : ℕ) (p : PlanePlot) → IsAt ps j p → HasOther a p) → may_gate ps t ≡ false
-may_gate_none t [] a e f = refl
-may_gate_none t (p ∷ ps) a e f =
-    both_false (not (is_another t.aim.address t.aim.code p)) (may_gate ps t) (ap not (other_is t.aim.address t.aim.code p a e (f zero p refl))) (may_gate_none t ps a e (λ j q at. f (suc j) q at))

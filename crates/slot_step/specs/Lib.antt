@@ -12,7 +12,7 @@ pub mod OneBatch
 pub mod Calls
 pub mod Told
 pub mod Gates
-pub mod Candidates
+pub mod PlotPlaces
 pub mod Beside
 pub mod ComponentEdges
 pub mod ToldComponents

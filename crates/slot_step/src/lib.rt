@@ -16,6 +16,7 @@ mod component_costs;
 mod gates;
 mod laws;
 mod moving;
+mod nearby;
 mod pairing;
 mod reaching;
 mod slots;

@@ -1,13 +1,11 @@
-use Rattle.std.proofs.Common.{List, subst, sym, ◌∙◌, length}
+use Rattle.std.proofs.Common.{List, subst, sym, length}
 use Rattle.assignment_dual.specs.Problems.{Edge, IsProblem}
 use Rattle.slot_step.specs.Tracker.{track_gate}
 use Rattle.slot_step.specs.Problems.{IsProblemOf}
-use Rattle.slot_step.proofs.Edges.{is_problem, problem_of}
-use Rattle.slot_step.proofs.Near.{gate_low}
 use Rattle.slot_step.proofs.gates.batch_costs.Goals as goal
 
 pub invariant_of-result : goal.invariant_of-result
-invariant_of-result c = subst (λ (es : List Edge). IsProblem (record { plots = length c.args.plots.now; tracks = length c.args.tracks.now; edges = es })) (sym (c.of.ensures ∙ c.in_ok-edges.ensures)) (is_problem track_gate gate_low c.args.tracks.now c.args.plots.now)
+invariant_of-result c = subst (λ (es : List Edge). IsProblem (record { plots = length c.args.plots.now; tracks = length c.args.tracks.now; edges = es })) (sym c.of.ensures) c.in_ok-edges.ensures.problem
 
 pub returns : goal.returns
-returns c = subst (λ (es : List Edge). IsProblemOf track_gate c.args.tracks.now c.args.plots.now (record { plots = length c.args.plots.now; tracks = length c.args.tracks.now; edges = es })) (sym (c.of.ensures ∙ c.in_ok-edges.ensures)) (problem_of track_gate gate_low c.args.tracks.now c.args.plots.now)
+returns c = subst (λ (es : List Edge). IsProblemOf track_gate c.args.tracks.now c.args.plots.now (record { plots = length c.args.plots.now; tracks = length c.args.tracks.now; edges = es })) (sym c.of.ensures) c.in_ok-edges.ensures

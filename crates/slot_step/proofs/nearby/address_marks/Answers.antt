@@ -4,7 +4,7 @@ use Rattle.slot_step.specs.Certificates.{IsAt}
 use Rattle.slot_step.proofs.Certifying.{within}
 use Rattle.slot_step.proofs.Components.{get_at}
 use Rattle.slot_step.proofs.Marking.{all_marked, one_marked, marked_to_end}
-use Rattle.slot_step.proofs.gates.address_marks.Goals as goal
+use Rattle.slot_step.proofs.nearby.address_marks.Goals as goal
 
 pub returns-in-None : goal.returns-in-None
 returns-in-None c = all_marked c.args.plots.now c.in_ok-vec-in-None.field-0.items (c.in_ok-vec-in-None.ensures.items_if_clones_equal (λ y e. e))
