@@ -1,4 +1,4 @@
-use Rattle.std.proofs.Common.{rules, ◌∙◌, ap, sym, subst, ℕ, ℤ, ◌+◌, List, [], ◌∷◌, ◌++◌, arith}
+use Rattle.std.proofs.Common.{rules, ◌≡◌, sym, subst, ℕ, ℤ, ◌+◌, List, [], ◌∷◌, ◌++◌, arith}
 use Rattle.plot_geometry.specs.Plots.{PlanePlot}
 use Rattle.slot_step.specs.Certificates.{IsAt}
 use Rattle.slot_step.proofs.Certifying.{within}
@@ -12,8 +12,8 @@ loop-index-preserved c =
     let i = c.loop-index.index in
     let p : PlanePlot = c.index-plots-index.result in
     let places : List (ℤ × ℕ) = c.loop-index.places.items in
-    subst (ArePlacesUpTo ps (i + 1)) (sym (c.in_ok-push.ensures.items ∙ ap (λ (x : ℤ). places ++ (x, i) ∷ []) (ap (λ (q : PlanePlot). q.x) c.plot.view_is)))
-    (one_place ps i places p c.loop-index.invariant (subst (IsAt ps i) (sym c.index-plots-index.is) (get_at p ps i c.loop-index-test.true)))
+    let pushed : c.push.new.self.items ≡ places ++ (p.x, i) ∷ [] = search rules in
+    subst (ArePlacesUpTo ps (i + 1)) (sym pushed) (one_place ps i places p c.loop-index.invariant (subst (IsAt ps i) (sym c.index-plots-index.is) (get_at p ps i c.loop-index-test.true)))
 
 pub returns : goal.returns
 returns c =
