@@ -19,7 +19,7 @@ use Rattle.slot_step.specs.ComponentEdges.{index_of, edges_at, own_edge, compone
 use Rattle.slot_step.proofs.Interleavings.{contains_first, contains_later, contains_none, all_of, all_contains, all_filter, in_filter, filter_passes}
 use Rattle.slot_step.proofs.Certifying.{within, at_contains}
 use Rattle.slot_step.proofs.Components.{at_get, get_at}
-use Rattle.slot_step.proofs.Edges.{Rising, by_index, rising_append, all_by_index, from_none}
+use Rattle.slot_step.proofs.RisingEdges.{Rising, by_index, rising_append, all_by_index, from_none}
 use Rattle.slot_step.proofs.ComponentEdges.{index_at}
 
 -- a rising list of numbers below n has at most n of them

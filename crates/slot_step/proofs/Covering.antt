@@ -1,5 +1,5 @@
 -- The places near a track are those of all plots that it gates.
-use Rattle.std.proofs.Common.{◌≡◌, ◌∙◌, ap, sym, ℕ, ◌+◌, ◌<◌, ◌≤◌, ℤ, ◌≤ℤ◌, ◌<ℤ◌, pos, Bool, true, false, cond, eqb, List, [], ◌∷◌, ◌++◌, length, get_or, Option, Some, None, IsSome, arith, subst, inl, inr}
+use Rattle.std.proofs.Common.{◌≡◌, ◌∙◌, ap, sym, ℕ, ◌+◌, ◌<◌, ◌≤◌, ℤ, ◌≤ℤ◌, ◌<ℤ◌, pos, Bool, true, cond, eqb, List, [], ◌++◌, length, get_or, Option, IsSome, arith, subst, inl, inr}
 use Rattle.std.specs.Prelude.{Contains, All, unsigned_abs}
 use Rattle.std.specs.List.{AllWithin}
 use Rattle.std.proofs.lemmas.Bool.{cases_eq}
@@ -15,13 +15,13 @@ use Rattle.gating.specs.declared.coarse.CoarseGate.{CoarseGate}
 use Rattle.gating.proofs.Costs.{of_another}
 use Rattle.slot_step.specs.Certificates.{IsAt}
 use Rattle.slot_step.specs.Gates.{times_placed, CoverGates}
-use Rattle.slot_step.specs.PlotPlaces.{HasOther, AreMarked, IsUnmarked, IsPlace, ArePlaces, AreBetween, AreTimes, AreOthers}
+use Rattle.slot_step.specs.PlotPlaces.{AreMarked, IsUnmarked, IsPlace, ArePlaces, AreBetween, AreTimes, AreOthers}
 use Rattle.slot_step.proofs.Certifying.{within}
 use Rattle.slot_step.proofs.Components.{all_at}
-use Rattle.slot_step.proofs.Edges.{all_by_index}
 use Rattle.slot_step.proofs.Interleavings.{all_contains}
 use Rattle.slot_step.proofs.Marking.{other_is}
 use Rattle.slot_step.proofs.Problems.{one_at}
+use Rattle.slot_step.proofs.RisingEdges.{all_by_index}
 use lib.Signed.{clash_ℤ}
 
 -- where a track gates no plot there may be no place

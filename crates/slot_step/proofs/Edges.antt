@@ -1,6 +1,6 @@
 -- The gates of a batch, found track by track and put in order, are its problem.
-use Rattle.std.proofs.Common.{◌≡◌, ◌≢◌, ◌∙◌, ap, sym, refl, ℕ, zero, suc, ◌+◌, ◌-◌, ◌<◌, ◌≤◌, ℤ, Bool, true, false, cond, eqb, List, [], ◌∷◌, ◌++◌, length, get_or, take, Option, Some, None, IsSome, arith, subst, inl, inr}
-use Rattle.std.specs.Prelude.{◌⊎◌, ◌↔◌, ◌&&◌, Contains, All}
+use Rattle.std.proofs.Common.{◌≡◌, ◌≢◌, ◌∙◌, ap, sym, refl, ℕ, zero, suc, ◌+◌, ◌-◌, ◌<◌, ◌≤◌, ℤ, Bool, true, false, cond, eqb, List, [], ◌∷◌, ◌++◌, length, Option, Some, None, arith, subst, inl, inr}
+use Rattle.std.specs.Prelude.{◌⊎◌, ◌↔◌, ◌&&◌, Contains}
 use Rattle.std.specs.Cmp.{ranks}
 use Rattle.std.specs.Fn.{Called, ComputesKey}
 use Rattle.std.specs.List.Sorted.{IsPermutation, IsSortedByKey}
@@ -8,23 +8,21 @@ use Rattle.std.specs.Ordering.{is_lt, nat_cmp, ordering_then, MatchOrdering}
 use Rattle.std.specs.declared.cmp.Ordering.{Ordering}
 use Rattle.std.specs.declared.cmp.Ordering.TheVariants.{Less, Equal, Greater}
 use Rattle.std.proofs.lemmas.Bool.{cases_eq, eq-eqb, ne_eqb}
-use Rattle.std.proofs.lemmas.List.Elements.{Contains-get_or, Contains-push, Contains-push_cases, Contains-append_left}
+use Rattle.std.proofs.lemmas.List.Elements.{Contains-push, Contains-push_cases, Contains-append_left}
 use Rattle.std.proofs.lemmas.List.Sorted.{Contains-permutation, IsPermutation-sym, sum_by-IsPermutation}
 use Rattle.std.proofs.lemmas.List.Sums.{sum_by-cons, sum_by_push, sum_by_more, sum_by-take-le}
 use Rattle.std.proofs.lemmas.Fn.{always_returns_same}
 use denote.Ref.{Bor}
 use denote.Param.Members.{Mut}
 use Rattle.trk_base.specs.Limits.{gate_cost}
-use Rattle.assignment_dual.specs.Problems.{Edge, EdgeBefore, Problem, IsProblem, edge_at}
+use Rattle.assignment_dual.specs.Problems.{Edge, EdgeBefore, edge_at}
 use Rattle.slot_step.specs.Certificates.{IsAt}
-use Rattle.slot_step.specs.Gates.{times_placed, times_joined, CoverGates, IsGateNear, AreAdded}
+use Rattle.slot_step.specs.Gates.{times_joined, CoverGates, IsGateNear, AreAdded}
 use Rattle.slot_step.specs.Problems.{IsGateBetween, IsProblemOf}
 use Rattle.slot_step.proofs.Certifying.{some_is, within}
 use Rattle.slot_step.proofs.Interleavings.{contains_first, contains_later, contains_none}
 use Rattle.slot_step.proofs.Problems.{one_at}
-
-pub all_by_index : {X : Type 0} (Q : X → Type 0) (xs : List X) → ((x : X) → Contains xs x → Q x) → All Q xs
-all_by_index Q xs f i d lt = f (get_or xs i d) (Contains-get_or xs i d lt)
+use Rattle.slot_step.proofs.RisingEdges.{all_by_index}
 
 -- 1 for an edge between these two, and else 0
 abbrev joins : ℕ → ℕ → Edge → ℕ
@@ -219,17 +217,3 @@ module _ {T P : Type 0} (gate : T → P → Option ℕ) (low : (t : T) (p : P) (
           (λ g. Contains-permutation es fs (i, j, cost) moves ((h.edges_are i j cost).1 (end j g.track g.track_at, g))),
         );
       }
-
-  -- where there is no plot
-  pub no_problem : ps ≡ [] → IsProblemOf gate ts ps (record { plots = length ps; tracks = length ts; edges = [] })
-  no_problem e = record {
-    problem = record {
-      rising = λ i j lt l. absurd (omega (arith, l));
-      plots = λ i d lt. absurd (omega (arith, lt));
-      tracks = λ i d lt. absurd (omega (arith, lt));
-      costs = λ i d lt. absurd (omega (arith, lt));
-    };
-    plot_count = refl;
-    track_count = refl;
-    edges_are = λ i j cost. (λ c. contains_none (i, j, cost) c, λ g. absurd (subst (λ qs. IsAt qs i g.plot) e g.plot_at));
-  }

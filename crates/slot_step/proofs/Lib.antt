@@ -11,6 +11,7 @@ pub mod Problems
 pub mod Components
 pub mod Slotwise
 pub mod Tracker
+pub mod RisingEdges
 pub mod Edges
 pub mod Near
 pub mod Passing

@@ -1,13 +1,12 @@
 -- Marks of the addresses of a batch's plots.
-use Rattle.std.proofs.Common.{◌≡◌, ◌∙◌, ap, sym, refl, ℕ, zero, suc, ◌+◌, ◌<◌, ◌%◌, replicate, Bool, true, false, List, [], ◌∷◌, length, get_or, Option, Some, arith, subst, inl, inr, slice_set}
-use Rattle.std.specs.Prelude.{not, ◌||◌, ◌&&◌}
+use Rattle.std.proofs.Common.{◌≡◌, ◌∙◌, ap, sym, ℕ, ◌+◌, ◌<◌, ◌%◌, replicate, Bool, true, false, List, length, get_or, Option, Some, arith, subst, inl, inr, slice_set}
+use Rattle.std.specs.Prelude.{not, ◌&&◌}
 use Rattle.std.specs.Option.{is_some}
 use Rattle.std.proofs.lemmas.Bool.{cases_eq, ne_eqb, or_left}
 use Rattle.std.proofs.lemmas.List.{length-set, length-replicate, get_or-replicate, get_or-set_other}
 use Rattle.std.proofs.lemmas.Grind.{get_or-set_at}
 use Rattle.plot_geometry.specs.Plots.{PlanePlot}
 use Rattle.gating.specs.Gating.{differ, is_another}
-use Rattle.track_life.specs.Tracks.{TrackState}
 use Rattle.slot_step.specs.Certificates.{IsAt}
 use Rattle.slot_step.specs.PlotPlaces.{HasOther, AreMarked}
 use Rattle.slot_step.proofs.Problems.{one_at}

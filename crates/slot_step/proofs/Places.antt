@@ -1,5 +1,5 @@
 -- Plots by their places to the east.
-use Rattle.std.proofs.Common.{◌≡◌, ◌≢◌, ◌∙◌, ap, sym, refl, ℕ, zero, suc, ◌+◌, ◌<◌, ◌≤◌, ℤ, ◌≤ℤ◌, ◌<ℤ◌, Bool, true, false, cond, eqb, List, [], ◌∷◌, ◌++◌, length, get_or, take, drop, arith, subst, inl, inr}
+use Rattle.std.proofs.Common.{◌≡◌, ◌≢◌, ◌∙◌, ap, sym, refl, ℕ, ◌+◌, ◌<◌, ◌≤◌, ℤ, ◌≤ℤ◌, ◌<ℤ◌, Bool, true, false, cond, eqb, List, [], ◌∷◌, ◌++◌, length, get_or, take, drop, arith, subst, inl, inr}
 use Rattle.std.specs.Prelude.{◌⊎◌, T, not, min, max, Contains}
 use Rattle.std.specs.Fn.{Called, ComputesKey}
 use Rattle.std.specs.List.{AllByRecursion}
@@ -149,6 +149,7 @@ module _ (places : List (ℤ × ℕ)) (up : RiseEast places) where
       westward : (es : List (ℤ × ℕ)) → AllByRecursion (λ e. lt_z e.0 west ≡ true) es → AllByRecursion (λ e. e.0 <ℤ west) es
       westward [] h = tt
       westward (e ∷ es) h = (is_below e.0 west h.0, westward es h.1)
+
       eastward : (es : List (ℤ × ℕ)) → AllByRecursion (λ e. le_z e.0 east ≡ false) es → AllByRecursion (λ e. east <ℤ e.0) es
       eastward [] h = tt
       eastward (e ∷ es) h = (is_above e.0 east h.0, eastward es h.1)

@@ -43,10 +43,7 @@ fn is_marked(marks: &[bool], address: Option<u32>) -> bool
 }
 
 /// Where the plots are to the east, rising, each with its index.
-pub(crate) fn plot_places(
-    alloc: Global,
-    plots: &[PlanePlot],
-) -> Result<Vec<(i64, u32)>, NoMemory>
+pub(crate) fn plot_places(alloc: Global, plots: &[PlanePlot]) -> Result<Vec<(i64, u32)>, NoMemory>
     requires { length plots.now < 2 ^ 32 }
     ensures { IfOk result (λ places. ArePlaces plots.now places.items) }
 {
@@ -97,12 +94,7 @@ fn places_between(places: &[(i64, u32)], west: i64, east: i64) -> &[(i64, u32)]
 }
 
 // Whether one of the plots at these places lies in the rectangle and may be of the aircraft.
-fn some_lies_in(
-    coarse: &CoarseGate,
-    aim: &Aim,
-    plots: &[PlanePlot],
-    near: &[(i64, u32)],
-) -> bool
+fn some_lies_in(coarse: &CoarseGate, aim: &Aim, plots: &[PlanePlot], near: &[(i64, u32)]) -> bool
     requires { All (λ e. e.1 < length plots.now) near.now }
     ensures { IsFalse result → AreOthers aim.now coarse.now plots.now near.now }
 {

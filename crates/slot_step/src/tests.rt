@@ -16,8 +16,8 @@ use std::test::Fail;
 use track_life::{LifeSettings, Table, Track};
 use trk_base::{Key, NoMemory, Steps, TryCopy, charge, slot_of};
 
-// A plot's time, radar, arrival, and place to the north in 1,000/64 m.
-type Row = (u64, u8, u64, u16);
+// A plot's time, radar, arrival, and place to the east and to the north in 1,000/64 m.
+type Row = (u64, u8, u64, i16, u16);
 
 // A track's number, whether it is confirmed and of one radar, how many plots it has, and its time.
 type Told = (Option<u16>, bool, bool, u32, u64);
@@ -26,30 +26,48 @@ type Told = (Option<u16>, bool, bool, u32, u64);
 // tracks after them.
 type Case<'a> = (u8, &'a [Row], &'a [Told]);
 
-const CASES: [Case<'static>; 3] = [
+const CASES: [Case<'static>; 4] = [
     // The second radar's plot is older than the first one's, which began the track.
     (
         1,
-        &[(4_608_063, 0, 0, 118), (4_608_000, 1, 1, 118)],
+        &[(4_608_063, 0, 0, 0, 118), (4_608_000, 1, 1, 0, 118)],
         &[(Some(1), true, false, 2, 4_608_000)],
     ),
     // The track is confirmed by a plot that came after the one in the next slot.
     (
         3,
         &[
-            (4_608_010, 0, 0, 118),
-            (4_608_074, 0, 2, 118),
-            (4_608_138, 0, 1, 118),
+            (4_608_010, 0, 0, 0, 118),
+            (4_608_074, 0, 2, 0, 118),
+            (4_608_138, 0, 1, 0, 118),
         ],
         &[(Some(1), true, true, 3, 4_608_138)],
     ),
     // Both tracks ask for number 1 first.
     (
         1,
-        &[(4_608_000, 0, 0, 0), (4_608_000, 0, 65_535, 60_000)],
+        &[(4_608_000, 0, 0, 0, 0), (4_608_000, 0, 65_535, 0, 60_000)],
         &[
             (Some(1), true, true, 1, 4_608_000),
             (Some(2), true, true, 1, 4_608_000),
+        ],
+    ),
+    // Two tracks stand in one line from south to north. Each gates the plot in its own place, and
+    // neither the other's, nor the plot that lies too far to the east.
+    (
+        1,
+        &[
+            (4_608_000, 0, 0, -118, 118),
+            (4_608_000, 0, 1, -118, 60_000),
+            (4_608_070, 0, 2, -118, 60_000),
+            (4_608_080, 0, 3, 600, 118),
+            (4_608_090, 0, 4, -118, 118),
+            (4_608_140, 0, 5, -118, 118),
+        ],
+        &[
+            (Some(1), true, true, 3, 4_608_140),
+            (Some(2), true, true, 2, 4_608_070),
+            (Some(4), true, true, 1, 4_608_080),
         ],
     ),
 ];
@@ -62,8 +80,8 @@ fn plot_of(row: Row) -> PlanePlot {
             time: row.0,
             arrival: row.2,
         },
-        x: 0,
-        y: i64::from(row.3) * 1_000,
+        x: i64::from(row.3) * 1_000,
+        y: i64::from(row.4) * 1_000,
         rx: 18_496,
         ry: 10_240_000,
         kind: 2,

@@ -1,4 +1,4 @@
-use Rattle.std.proofs.Common.{◌≡◌, ◌∙◌, ◌<◌, ◌+◌, ◌++◌, ◌∷◌, [], ap, sym, subst, ℕ, ℤ, pos, List, get_or, length, take, Vec, Global}
+use Rattle.std.proofs.Common.{◌≡◌, ◌∙◌, ◌+◌, ◌++◌, ◌∷◌, [], ap, sym, subst, ℕ, ℤ, pos, List, get_or, take, Vec, Global}
 use Rattle.std.proofs.lemmas.List.{take_more}
 use Rattle.assignment_dual.specs.Problems.{Edge}
 use Rattle.gating.specs.Gating.{gate}

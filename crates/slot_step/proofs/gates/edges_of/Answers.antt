@@ -1,4 +1,4 @@
-use Rattle.std.proofs.Common.{rules, sym, subst, ℕ, arith}
+use Rattle.std.proofs.Common.{rules, sym, subst, arith}
 use Rattle.gating.specs.Gating.{gate}
 use Rattle.track_life.specs.Tracks.{TrackState}
 use Rattle.slot_step.specs.Certificates.{IsAt}

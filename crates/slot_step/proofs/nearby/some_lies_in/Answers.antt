@@ -1,6 +1,5 @@
-use Rattle.std.proofs.Common.{rules, ◌≡◌, ◌∙◌, ap, sym, subst, ℕ, ℤ, true, false, get_or, length, pos, ◌<◌}
+use Rattle.std.proofs.Common.{rules, ◌≡◌, sym, subst, ℕ, ℤ, true, get_or, length, pos, ◌<◌}
 use Rattle.plot_geometry.specs.Plots.{PlanePlot}
-use Rattle.gating.specs.Coarse.{IsIn}
 use Rattle.gating.specs.Gating.{is_another}
 use Rattle.slot_step.specs.Certificates.{IsAt}
 use Rattle.slot_step.proofs.Components.{get_at}
