@@ -11,7 +11,7 @@ use Rattle.slot_step.specs.Certificates.{IsAt}
 use Rattle.slot_step.specs.PlotPlaces.{HasOther, AreMarked}
 use Rattle.slot_step.proofs.Problems.{one_at}
 
--- the first i plots have their places marked
+-- the marks of the first i plots are set
 pub record AreMarkedUpTo (ps : List PlanePlot) (i : ℕ) (marks : List Bool) : Type 0 where
   pub count : length marks ≡ 4096
   pub others : (a : ℕ) → get_or marks (a % 4096) false ≡ false → (j : ℕ) (p : PlanePlot) → IsAt ps j p → j < i → HasOther a p

@@ -15,12 +15,12 @@ pub record HasOther (address : ℕ) (p : PlanePlot) : Type 0 where
   pub told : p.address ≡ Some own
   pub other : own ≢ address
 
--- a place for each remainder of an address; where that of an address isn't marked, all plots have others
+-- a mark for each remainder of an address; where that of an address isn't set, all plots have others
 pub record AreMarked (ps : List PlanePlot) (marks : List Bool) : Type 0 where
   pub count : length marks ≡ 4096
   pub others : (address : ℕ) → get_or marks (address % 4096) false ≡ false → (i : ℕ) (p : PlanePlot) → IsAt ps i p → HasOther address p
 
--- there is an address, and its place isn't marked
+-- there is an address, and its mark isn't set
 pub record IsUnmarked (marks : List Bool) (address : Option ℕ) : Type 0 where
   pub own : ℕ
   pub told : address ≡ Some own

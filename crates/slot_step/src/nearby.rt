@@ -16,8 +16,8 @@ use trk_base::NoMemory;
 // How many marks of addresses there are. Addresses with one remainder share a mark.
 const MARKS: u32 = 4_096;
 
-/// Marks the place of each plot's address, so that a track of another aircraft is passed over without
-/// a look at each plot. Where a plot has no address, all places are marked.
+/// Sets the mark of each plot's address, so that a track of another aircraft is passed over without a
+/// look at each plot. Where a plot has no address, all marks are set.
 pub(crate) fn address_marks(alloc: Global, plots: &[PlanePlot]) -> Result<Vec<bool>, NoMemory>
     ensures { IfOk result (λ marks. AreMarked plots.now marks.items) }
 {
