@@ -5,5 +5,6 @@ pub mod Latest
 pub mod Lines
 pub mod Lists
 pub mod Marks
+pub mod Merging
 pub mod Orders
 pub mod Stands
