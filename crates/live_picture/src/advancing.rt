@@ -1,23 +1,19 @@
-// An engine takes in further events, and tells the edition of all of them.
+// An engine is brought up to the last event that it has taken in, and tells the edition there.
 ghost use Rattle.std.specs.Prelude.{◌≤◌, ℕ, IfOk};
 ghost use Rattle.admission_log.specs.declared.settings.Settings.{Settings};
 ghost use Rattle.admission_log.specs.Histories.{History};
-ghost use Rattle.admission_log.specs.Legality.{IsLegal};
-ghost use Rattle.tracker_engine.specs.Engines.{StandsFor, Continues, with_events};
-ghost use Rattle.live_picture.specs.Rounds.{Tells};
+ghost use Rattle.live_picture.specs.Rounds.{Stands, IsStanding, Tells};
 
-use admission_log::Event;
 use cluster_pool::Pool;
 use edition_form::Built;
 use std::sync::ledger::Ledger;
 use tracker_engine::Engine;
 use trk_base::{NoMemory, Steps};
 
-/// Takes in events, settles, and tells the edition of all events that were taken in. It isn't shown
-/// yet.
+/// Settles, and tells the edition of all events that were taken in. It isn't shown yet. Whatever it
+/// answers, the engine stands for these events.
 pub fn advance<P: Pool, L: Ledger>(
     engine: &mut Engine,
-    events: &[Event],
     number: u64,
     pool: &mut P,
     wish: u8,
@@ -26,10 +22,10 @@ pub fn advance<P: Pool, L: Ledger>(
     requires least { 1 ≤ wish }
     requires most { wish ≤ 16 }
     requires from_one { 1 ≤ number }
-    requires continues { Continues engine.old events.now }
-    ensures { (settings : Settings) (log : History) (settled before : ℕ) → StandsFor settings log settled before engine.old → IsLegal settings (with_events log events.now) → IfOk result (λ b. Tells settings (with_events log events.now) before number engine.new b) }
+    requires standing { IsStanding engine.old }
+    ensures stands { (settings : Settings) (log : History) (before : ℕ) → Stands settings log before engine.old → Stands settings log before engine.new }
+    ensures tells { (settings : Settings) (log : History) (before : ℕ) → Stands settings log before engine.old → IfOk result (λ b. Tells settings log before number engine.new b) }
 {
-    engine.absorb(events)?;
     engine.settle(pool, wish, steps)?;
     engine.edition(number)
 }

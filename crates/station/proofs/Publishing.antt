@@ -31,7 +31,7 @@ use Rattle.station.specs.declared.station.Station.{Station}
 use Rattle.station.specs.declared.tokens.Conductor.{Conductor}
 use Rattle.station.specs.Tokens.{settings_of, start_of, log_with, gathered_of, IsConductorOf, IsNewConductor}
 use Rattle.station.specs.Turns.{Ticks, Gathers, MayPublish, Publishes}
-use Rattle.station.specs.Rounds.{PublishesNone}
+use Rattle.station.specs.Tests.{PublishesNone}
 use Rattle.station.proofs.Standing.{plain_publications}
 
 -- ---- the edition of no events
@@ -71,7 +71,7 @@ module _ (station : Station) (settings : Settings) where
   abbrev published_by : Conductor → List (ℕ × ℕ)
   published_by by = publications_of (log_with station by.turn.seen)
 
-  pub begins : (by : Conductor) → IsNewConductor station by → IsConductorOf station by → settings ≡ settings_of station → start_of station ≡ 4608000 → PublishesNone station settings by 1
+  pub begins : (by : Conductor) → IsNewConductor station by → IsConductorOf station by → settings ≡ settings_of station → start_of station ≡ 4608000 → PublishesNone station settings 4608000 by 1
   begins by new own settings_are start = let none : by.turn.seen ≡ [] = ap (λ (u : Token Event Base). u.seen) new.turn in record {
     own = own;
     settings_are = settings_are;
@@ -81,7 +81,7 @@ module _ (station : Station) (settings : Settings) where
   }
 
   -- after a turn that published nothing
-  pub goes_on : (old new : Conductor) (number : ℕ) → PublishesNone station settings old number → IsConductorOf station new → published_by new ≡ published_by old → PublishesNone station settings new number
+  pub goes_on : (old new : Conductor) (number : ℕ) → PublishesNone station settings 4608000 old number → IsConductorOf station new → published_by new ≡ published_by old → PublishesNone station settings 4608000 new number
   goes_on old new number p own same = record {
     own = own;
     settings_are = p.settings_are;
@@ -109,7 +109,7 @@ module _ (station : Station) (settings : Settings) where
   last_is (p ∷ ps) c z h = last_is ps p.1 h.0 h.1
 
   -- the next edition of no events may be published
-  pub may_publish : (by : Conductor) (number : ℕ) (e : Edition) → PublishesNone station settings by number → IsEdition settings no_events 0 number e → MayPublish station by e
+  pub may_publish : (by : Conductor) (number : ℕ) (e : Edition) → PublishesNone station settings 4608000 by number → IsEdition settings no_events 0 number e → MayPublish station by e
   may_publish by number e p is = let z : e.cut ≡ 0 = is.cut in record {
     no_less = subst (λ n. n ≤ e.cut) (sym (greatest_is (published_by by) 0 refl p.cuts)) (omega arith);
     no_more = subst (λ n. n ≤ length (gathered_of by)) (sym z) (omega arith);
@@ -117,7 +117,7 @@ module _ (station : Station) (settings : Settings) where
         (λ i. (p.settings_are i, sym p.start_is i, sym (ap (λ n. take n (gathered_of by)) z) i, sym (last_is (published_by by) 0 refl p.cuts) i, p.next i)) is;
   }
 
-  pub published : (old new : Conductor) (number index : ℕ) (e : Edition) → PublishesNone station settings old number → IsConductorOf station new → IsEdition settings no_events 0 number e → Publishes station old new e index → PublishesNone station settings new (number + 1)
+  pub published : (old new : Conductor) (number index : ℕ) (e : Edition) → PublishesNone station settings 4608000 old number → IsConductorOf station new → IsEdition settings no_events 0 number e → Publishes station old new e index → PublishesNone station settings 4608000 new (number + 1)
   published old new number index e p own is t =
       let grown : published_by new ≡ published_by old ++ (e.number, e.cut) ∷ [] = ap (λ (u : Token Event Base). publications_of (log_with station u.seen)) t.after
       ∙ (publications-appended (log_with station t.found) (Publish e.number e.cut) ∙ ap (λ (ps : List (ℕ × ℕ)). ps ++ (e.number, e.cut) ∷ []) t.are_found.publications) in

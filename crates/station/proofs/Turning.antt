@@ -137,24 +137,29 @@ module _ (station : Station) (by : Conductor) (x y : Shared) (f : Finds events_o
   }
   ticked new (Err v) time is at grown later = tt
 
-  seen_there : (new : Conductor) → new.turn ≡ turned by.turn (events_of x) (events_of y) → events_of y ≡ events_of x → new.turn.seen ≡ events_of x
+  seen_there : (new : Token Event Base) → new ≡ turned by.turn (events_of x) (events_of y) → events_of y ≡ events_of x → new.seen ≡ events_of x
   seen_there new is same = ap (λ (t : Token Event Base). t.seen) is ∙ same
 
-  there : (new : Conductor) → new.turn ≡ turned by.turn (events_of x) (events_of y) → events_of y ≡ events_of x → AreConducted station by.turn new.turn.seen
+  pub there : (new : Token Event Base) → new ≡ turned by.turn (events_of x) (events_of y) → events_of y ≡ events_of x → AreConducted station by.turn new.seen
   there new is same = subst (AreConducted station by.turn) (sym (seen_there new is same)) (are_conducted station by.turn x f head legal)
+
+  -- .. after a call that may fail
+  pub found_there : {T F : Type 0} (new : Token Event Base) (r : Result T F) → new ≡ turned by.turn (events_of x) (events_of y) → OnErr r (y.log ≡ x.log) → OnErr r (AreConducted station by.turn new.seen)
+  found_there new (Ok v) is err = tt
+  found_there new (Err v) is err = there new is (ap (λ (h : History). h.events) err)
 
   pub too_old : (new : Conductor) (r : Result ℕ TickError) (time : ℕ) → new.turn ≡ turned by.turn (events_of x) (events_of y) → ((last : ℕ) → r ≡ Err (errors.Old last) → (last ≡ last_of x.log) × (time ≤ last_of x.log)) → OnErr r (y.log ≡ x.log)
       → (last : ℕ) → r ≡ Err (errors.Old last) → IsOld station by new time last
   too_old new r time is old err last e = let o = old last e in let same : y.log ≡ x.log = subst (λ z. OnErr z (y.log ≡ x.log)) e err in let events = ap (λ (h : History). h.events) same in
-      let moved : last_of x.log ≡ last_of (log_with station new.turn.seen) = λ i. last_of (record { start = (f.rooted i).start; events = sym (seen_there new is events) i }) in record {
-        are_found = there new is events;
+      let moved : last_of x.log ≡ last_of (log_with station new.turn.seen) = λ i. last_of (record { start = (f.rooted i).start; events = sym (seen_there new.turn is events) i }) in record {
+        are_found = there new.turn is events;
         last_is = o.0 ∙ moved;
         not_above = subst (λ n. time ≤ n) (sym o.0) o.1;
       }
 
   pub gathers : (new : Conductor) (events : List Event) → new.turn ≡ turned by.turn (events_of x) (events_of y) → y ≡ x → events ≡ drop by.gathered (events_of x) → new.gathered ≡ length (events_of x) → Gathers station by new events
-  gathers new events is same are all = let there_is = seen_there new is (ap events_of same) in let long = ap length f.begins.1 ∙ length-append by.turn.seen f.begins.0 in record {
-    are_found = there new is (ap events_of same);
+  gathers new events is same are all = let there_is = seen_there new.turn is (ap events_of same) in let long = ap length f.begins.1 ∙ length-append by.turn.seen f.begins.0 in record {
+    are_found = there new.turn is (ap events_of same);
     all = there_is ∙ (sym (take-append-drop by.gathered (events_of x)) ∙ (λ i. (ap (take by.gathered) f.begins.1 ∙ take-append-le by.gathered by.turn.seen f.begins.0 by.within) i ++ sym are i));
     gathered = ap (λ n. take n new.turn.seen) (all ∙ ap length (sym there_is)) ∙ take_all new.turn.seen;
   }

@@ -3,4 +3,4 @@ pub mod Shared
 pub mod Added
 pub mod Tokens
 pub mod Turns
-pub mod Rounds
+pub mod Tests

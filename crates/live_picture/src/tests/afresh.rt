@@ -1,7 +1,11 @@
 // The edition of a log's first events, told by an engine that takes them in anew.
-ghost use Rattle.std.specs.Prelude.{◌≡◌, ◌≤◌, ◌<◌, ◌++◌, ◌^◌, ℕ};
+ghost use Rattle.std.specs.Prelude.{◌≡◌, ◌≤◌, ◌<◌, ◌++◌, ◌^◌, ℕ, IfOk};
 ghost use Rattle.std.specs.Arc.{arc_value};
+ghost use Rattle.admission_log.specs.declared.settings.Settings.{Settings};
+ghost use Rattle.admission_log.specs.Histories.{History};
 ghost use Rattle.admission_log.specs.Legality.{IsLegal};
+ghost use Rattle.tracker_engine.specs.Engines.{StandsFor, Continues, with_events};
+ghost use Rattle.live_picture.specs.Rounds.{Tells};
 
 use crate::advancing::advance;
 use admission_log::{Event, Settings};
@@ -13,6 +17,21 @@ use std::sync::ledger::Ledger;
 use std::thread::Threads;
 use tracker_engine::Engine;
 use trk_base::{NoMemory, Steps};
+
+// Takes in events, and tells the edition of all that were taken in.
+fn told_with<R: Threads + Sync, L: Ledger>(
+    engine: &mut Engine,
+    events: &[Event],
+    number: u64,
+    steps: &mut Steps<L>,
+) -> Result<Built, NoMemory>
+    requires from_one { 1 ≤ number }
+    requires continues { Continues engine.old events.now }
+    ensures { (settings : Settings) (log : History) (settled before : ℕ) → StandsFor settings log settled before engine.old → IsLegal settings (with_events log events.now) → IfOk result (λ b. Tells settings (with_events log events.now) before number engine.new b) }
+{
+    engine.absorb(events)?;
+    advance(engine, number, &mut Inline::<R>::new(), 1, steps)
+}
 
 // The edition of two stretches of a log, told against that of the first one.
 fn told_afresh<R: Threads + Sync, L: Ledger>(
@@ -29,11 +48,10 @@ fn told_afresh<R: Threads + Sync, L: Ledger>(
     requires legal { IsLegal (arc_value settings.now) (record { start = start; events = earlier.now ++ later.now }) }
 {
     let mut engine = Engine::new(alloc, Arc::try_clone(settings)?, start)?;
-    let mut pool = Inline::<R>::new();
-    let told = advance(&mut engine, earlier, number, &mut pool, 1, steps)?;
+    let told = told_with::<R, L>(&mut engine, earlier, number, steps)?;
     let Built { shown, .. } = told;
     engine.show(earlier.len() as u64, shown.into_vec());
-    let told = advance(&mut engine, later, number, &mut pool, 1, steps)?;
+    let told = told_with::<R, L>(&mut engine, later, number, steps)?;
     let Built { edition, .. } = told;
     Ok(edition)
 }

@@ -1,12 +1,13 @@
 // The sites and the conductor, each in a thread of its own.
-ghost use Rattle.std.specs.Prelude.{◌≡◌, ◌+◌, ◌<◌, ◌^◌, IfSome};
+ghost use Rattle.std.specs.Prelude.{◌≡◌, ◌+◌, ◌<◌, ◌^◌};
 ghost use denote.Param.Send.{IsSync};
-ghost use Rattle.station.specs.Tokens.{IsFeederOf, IsConductorOf, IsSubscriberOf};
+ghost use Rattle.station.specs.Tokens.{IsFeederOf, IsSubscriberOf};
 ghost use Rattle.live_picture.specs.Rounds.{Follows};
 
 use super::sites::{Served, Site, serve};
 use super::{ROUNDS, START};
 use crate::Live;
+use admission_log::TickError;
 use cluster_pool::Inline;
 use station::Station;
 use std::alloc::Global;
@@ -17,8 +18,26 @@ use trk_base::Steps;
 
 // ---- what the conductor does
 
-// Takes a tick, an eighth of a second after the last one, and publishes what has come. Answers the
-// indices of the tick and of the edition.
+// Publishes what has come, and tries once more where memory was wanting.
+fn publish<R: Threads + Wait + Sync, L: Ledger>(
+    rt: &R,
+    alloc: Global,
+    station: &Station,
+    live: &mut Live,
+    steps: &mut Steps<L>,
+) -> Option<u64>
+    requires follows { Follows station.now live.old }
+    ensures follows { Follows station.now live.new }
+{
+    let mut pool = Inline::<R>::new();
+    if let Ok(published) = live.publish(rt, alloc, station, &mut pool, 4, steps) {
+        return Some(published);
+    }
+    live.publish(rt, alloc, station, &mut pool, 4, steps).ok()
+}
+
+// Takes a tick, an eighth of a second after the last one, is refused the same tick again, and
+// publishes what has come. Answers the indices of the tick and of the edition.
 pub(super) fn round<R: Threads + Wait + Sync, L: Ledger>(
     rt: &R,
     alloc: Global,
@@ -29,16 +48,17 @@ pub(super) fn round<R: Threads + Wait + Sync, L: Ledger>(
 ) -> Option<(u64, u64)>
     requires few { turn < 2 ^ 32 }
     requires follows { Follows station.now live.old }
-    ensures own { IsConductorOf station.now live.new.conductor }
-    ensures follows { IfSome result (λ r. Follows station.now live.new) }
+    ensures follows { Follows station.now live.new }
 {
-    let Ok(ticked) = live.tick(rt, station, START + 16 * turn) else {
+    let time = START + 16 * turn;
+    let ticked = live.tick(rt, station, time).ok()?;
+    let Err(TickError::Old { last }) = live.tick(rt, station, time) else {
         return None;
     };
-    let mut pool = Inline::<R>::new();
-    let Ok(published) = live.publish(rt, alloc, station, &mut pool, 4, steps) else {
+    if last != time {
         return None;
-    };
+    }
+    let published = publish(rt, alloc, station, live, steps)?;
     Some((ticked, published))
 }
 
@@ -51,8 +71,7 @@ fn conduct<R: Threads + Wait + Sync, L: Ledger>(
     mut steps: Steps<L>,
 ) -> (Live, Option<Vec<u64>>)
     requires follows { Follows station.now live }
-    ensures own { IsConductorOf station.now result.0.conductor }
-    ensures follows { IfSome result.1 (λ v. Follows station.now result.0) }
+    ensures follows { Follows station.now result.0 }
 {
     let mut indices = Vec::new(alloc);
     for turn in 0..ROUNDS {
@@ -117,8 +136,7 @@ pub(super) fn all_beside<R: Threads + Wait + Sync, L: Ledger>(
     ensures other { IsFeederOf station.now result.0.1.0.0 × IsSubscriberOf station.now result.0.1.0.1 }
     ensures feeds { (result.0.0.0.0.feed ≡ one.0.feed) × (result.0.1.0.0.feed ≡ other.0.feed) }
     ensures readers { (result.0.0.0.1.reader ≡ one.1.reader) × (result.0.1.0.1.reader ≡ other.1.reader) }
-    ensures own { IsConductorOf station.now result.1.0.conductor }
-    ensures follows { IfSome result.1.1 (λ v. Follows station.now result.1.0) }
+    ensures follows { Follows station.now result.1.0 }
 {
     join(
         rt,
@@ -128,7 +146,7 @@ pub(super) fn all_beside<R: Threads + Wait + Sync, L: Ledger>(
         { sites_beside(rt, alloc, station, one, other) },
         move || -> Conducted
             requires { IsSync R.row × Follows station.now live }
-            ensures { IsConductorOf station.entry.now result.0.conductor × IfSome result.1 (λ v. Follows station.entry.now result.0) }
+            ensures { Follows station.entry.now result.0 }
         { conduct(rt, alloc, station, live, steps) },
     )
 }

@@ -1,5 +1,5 @@
 // The turns of the tokens.
-ghost use Rattle.std.specs.Prelude.{◌≡◌, ◌≤◌, ◌<◌, ◌^◌, ℕ, List, length, None, Err, IfOk, IfNone, IfSome, OnErr};
+ghost use Rattle.std.specs.Prelude.{◌≡◌, ◌≤◌, ◌<◌, ◌-◌, ◌^◌, ℕ, List, length, take, None, Err, IfOk, IfNone, IfSome, OnErr};
 ghost use Rattle.std.specs.Option.{option_map};
 ghost use Rattle.std.specs.Arc.{arc_value};
 ghost use Rattle.asterix_frame.specs.declared.block.Malformed.{Malformed};
@@ -7,8 +7,9 @@ ghost use Rattle.asterix_frame.specs.Answers.{IfMalformed, AnswersWith, RefusesW
 ghost use Rattle.asterix_frame.specs.Datagrams.{Content, IsDatagram, DatagramFault};
 ghost use Rattle.admission_log.specs.declared.events.TickError.TheVariants as errors;
 ghost use Rattle.admission_log.specs.Histories.{published_of};
+ghost use Rattle.station.specs.declared.station.Station.{Station};
 ghost use Rattle.station.specs.Tokens.{log_with, gathered_of, IsFeederOf, IsConductorOf, IsSubscriberOf};
-ghost use Rattle.station.specs.Turns.{OnlySaw, Admits, AdmitsSaid, Ticks, IsOld, Gathers, MayPublish, Publishes, AsksLatest, TakesNext, HasNoNext};
+ghost use Rattle.station.specs.Turns.{AreConducted, OnlySaw, Admits, AdmitsSaid, Ticks, IsOld, Gathers, MayPublish, Publishes, AsksLatest, TakesNext, HasNoNext};
 
 use super::Station;
 use crate::shared::SharedLog;
@@ -82,6 +83,7 @@ impl Station {
         ensures ticks { IfOk result (λ index. Ticks self.now by.old by.new time index) }
         ensures old { (last : ℕ) → result ≡ Err (errors.Old last) → IsOld self.now by.old by.new time last }
         ensures err { OnErr result (OnlySaw by.old.turn by.new.turn) }
+        ensures found { OnErr result (AreConducted self.now by.old.turn by.new.turn.seen) }
     {
         self.lock.with_turn(rt, &mut by.turn, |shared: &mut SharedLog| shared.tick(time))
     }
@@ -93,6 +95,7 @@ impl Station {
         ensures own { IsConductorOf self.now by.new }
         ensures gathers { IfOk result (λ events. Gathers self.now by.old by.new events.items) }
         ensures saw { OnlySaw by.old.turn by.new.turn }
+        ensures found { AreConducted self.now by.old.turn by.new.turn.seen }
         ensures err { OnErr result (gathered_of by.new ≡ gathered_of by.old) }
     {
         let from = by.gathered;
@@ -122,6 +125,7 @@ impl Station {
         ensures gathered { gathered_of by.new ≡ gathered_of by.old }
         ensures publishes { IfOk result (λ index. Publishes self.now by.old by.new (arc_value edition) index) }
         ensures err { OnErr result (OnlySaw by.old.turn by.new.turn) }
+        ensures found { OnErr result (AreConducted self.now by.old.turn by.new.turn.seen) }
     {
         self.lock.with_turn(
             rt,
@@ -161,6 +165,19 @@ impl Station {
         ensures same { (by.new.reader ≡ by.old.reader) × (by.new.number ≡ by.old.number) }
     {
         self.lock.fresh(&mut by.turn)
+    }
+}
+
+impl Conductor {
+    /// Puts so many of the events back that it gathered last: they are gathered again. It takes no
+    /// turn.
+    pub fn put_back(&mut self, count: u64)
+        requires { count ≤ length (gathered_of self.old) }
+        ensures own { (station : Station) → IsConductorOf station self.old → IsConductorOf station self.new }
+        ensures turn { self.new.turn ≡ self.old.turn }
+        ensures gathered { gathered_of self.new ≡ take (length (gathered_of self.old) - count) (gathered_of self.old) }
+    {
+        self.gathered -= count;
     }
 }
 

@@ -3,7 +3,7 @@ ghost use Rattle.std.specs.Prelude.{◌≡◌, All, EachIndex, IfOk, IsSomeAnd, 
 ghost use Rattle.std.specs.Arc.{arc_value};
 ghost use denote.Param.Send.{IsSync};
 ghost use Rattle.station.specs.Tokens.{IsFeederOf, IsConductorOf, IsSubscriberOf};
-ghost use Rattle.station.specs.Rounds.{PublishesNone};
+ghost use Rattle.station.specs.Tests.{PublishesNone};
 
 use super::judging::{Course, are_conducted, are_received, count_admitted, course_of};
 use super::rounds::{conduct_round, is_of_none};
@@ -55,7 +55,7 @@ fn conduct_all<W: Wait>(
     settings: &Settings,
     mut conductor: Conductor,
 ) -> (Conductor, Option<Vec<u64>>)
-    requires ready { PublishesNone station.now settings.now conductor 1 }
+    requires ready { PublishesNone station.now settings.now 4608000 conductor 1 }
     ensures own { IsConductorOf station.now result.0 }
 {
     let mut indices = Vec::new(alloc);
@@ -188,14 +188,14 @@ fn conduct_beside<R: Threads + Wait + Sync>(
     conductor: Conductor,
     subscriber: Subscriber,
 ) -> (Conducted, Asked)
-    requires own { PublishesNone station.now settings.now conductor 1 × IsSubscriberOf station.now subscriber }
+    requires own { PublishesNone station.now settings.now 4608000 conductor 1 × IsSubscriberOf station.now subscriber }
     ensures own { IsConductorOf station.now result.0.0 × IsSubscriberOf station.now result.1.0 }
     ensures reader { result.1.0.reader ≡ subscriber.reader }
 {
     join(
         rt,
         move || -> Conducted
-            requires { PublishesNone station.now settings.now conductor 1 }
+            requires { PublishesNone station.now settings.now 4608000 conductor 1 }
             ensures { IsConductorOf station.entry.now result.0 }
         { conduct_all(rt, alloc, station, settings, conductor) },
         move || -> Asked
@@ -217,7 +217,7 @@ fn all_beside<R: Threads + Wait + Sync>(
     others: (Conductor, Subscriber),
 ) -> Brought
     requires feeders { IsFeederOf station.now feeders.0 × IsFeederOf station.now feeders.1 }
-    requires others { PublishesNone station.now settings.now others.0 1 × IsSubscriberOf station.now others.1 }
+    requires others { PublishesNone station.now settings.now 4608000 others.0 1 × IsSubscriberOf station.now others.1 }
     ensures feeders { IsFeederOf station.now result.0.0.0 × IsFeederOf station.now result.0.1.0 }
     ensures feeds { (result.0.0.0.feed ≡ feeders.0.feed) × (result.0.1.0.feed ≡ feeders.1.feed) }
     ensures others { IsConductorOf station.now result.1.0.0 × IsSubscriberOf station.now result.1.1.0 }
@@ -232,7 +232,7 @@ fn all_beside<R: Threads + Wait + Sync>(
             ensures { IsFeederOf station.entry.now result.0.0 × IsFeederOf station.entry.now result.1.0 × (result.0.0.feed ≡ one.feed) × (result.1.0.feed ≡ other.feed) }
         { feed_beside(rt, alloc, station, one, other) },
         move || -> (Conducted, Asked)
-            requires { IsSync R.row × PublishesNone station.now settings.now conductor 1 × IsSubscriberOf station.now subscriber }
+            requires { IsSync R.row × PublishesNone station.now settings.now 4608000 conductor 1 × IsSubscriberOf station.now subscriber }
             ensures { IsConductorOf station.entry.now result.0.0 × IsSubscriberOf station.entry.now result.1.0 × (result.1.0.reader ≡ subscriber.reader) }
         { conduct_beside(rt, alloc, station, settings, conductor, subscriber) },
     )
@@ -278,7 +278,7 @@ fn opened(
     ensures counts { IfOk result (λ r. (r.0.feeds ≡ 2) × (r.0.readers ≡ 1)) }
     ensures feeders { IfOk result (λ r. IsFeederOf r.0 r.1.0 × IsFeederOf r.0 r.1.1) }
     ensures feeds { IfOk result (λ r. (r.1.0.feed ≡ 0) × (r.1.1.feed ≡ 1)) }
-    ensures others { IfOk result (λ r. PublishesNone r.0 (arc_value settings.now) r.2.0 1 × IsSubscriberOf r.0 r.2.1) }
+    ensures others { IfOk result (λ r. PublishesNone r.0 (arc_value settings.now) 4608000 r.2.0 1 × IsSubscriberOf r.0 r.2.1) }
     ensures reader { IfOk result (λ r. r.2.1.reader ≡ 0) }
 {
     let settings = Arc::try_clone(settings)?;

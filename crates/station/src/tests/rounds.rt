@@ -3,7 +3,7 @@ ghost use Rattle.std.specs.Prelude.{◌≡◌, ◌+◌, ◌<◌, ◌^◌, [], �
 ghost use Rattle.std.specs.Arc.{arc_value};
 ghost use Rattle.edition_form.specs.Editions.{IsEdition};
 ghost use Rattle.station.specs.Tokens.{IsConductorOf};
-ghost use Rattle.station.specs.Rounds.{PublishesNone};
+ghost use Rattle.station.specs.Tests.{PublishesNone};
 
 use super::START;
 use crate::{Conductor, Station};
@@ -71,9 +71,9 @@ pub(super) fn conduct_round<W: Wait>(
     number: u64,
 ) -> Option<(u64, u64)>
     requires few { number < 2 ^ 32 }
-    requires ready { PublishesNone station.now settings.now conductor.old number }
+    requires ready { PublishesNone station.now settings.now 4608000 conductor.old number }
     ensures own { IsConductorOf station.now conductor.new }
-    ensures ready { IfSome result (λ r. PublishesNone station.now settings.now conductor.new (number + 1)) }
+    ensures ready { IfSome result (λ r. PublishesNone station.now settings.now 4608000 conductor.new (number + 1)) }
 {
     let Ok(edition) = edition_of_none(alloc, settings, number) else {
         return None;

@@ -1,4 +1,3 @@
-use Rattle.std.proofs.Common.{◌∙◌, arith}
 use Rattle.std.specs.Arc.{arc_value}
 use Rattle.live_picture.proofs.Afresh.{cut_legal}
 use Rattle.live_picture.proofs.tests.afresh.is_told.Goals as goal

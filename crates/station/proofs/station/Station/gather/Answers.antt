@@ -4,7 +4,7 @@ use Rattle.admission_log.specs.Legality.{IsLegal}
 use Rattle.station.specs.Added.{is_of_conductor}
 use Rattle.station.specs.Newest.{Shared}
 use Rattle.station.specs.Shared.{events_of}
-use Rattle.station.proofs.Turning.{made_seen, longer, gathered_more, gathers}
+use Rattle.station.proofs.Turning.{made_seen, longer, gathered_more, there, gathers}
 use Rattle.station.proofs.station.Station.gather.Goals as goal
 
 pub invariant_of-by : goal.invariant_of-by
@@ -39,3 +39,15 @@ returns-clause-gathers g c = let (x, y, f, ran, is) = c.with_turn.ensures.turn i
     let are : c.in_ok-events.events.items ≡ drop c.args.by.now.gathered (events_of x) = search rules in
     let sum = gathered_more c.args.by.now x f.begins c.in_ok-events.events.items are in
     gathers c.args.self.now c.args.by.now x y f c.requires.own.number legal _ c.in_ok-events.events.items is same are (omega (arith, sum, c.len.ensures))
+
+pub returns-in_err-events-clause-found : goal.returns-in_err-events-clause-found
+returns-in_err-events-clause-found g c = let (x, y, f, ran, is) = c.with_turn.ensures.turn in
+    let same : y ≡ x = search rules in
+    let legal : IsLegal x.settings x.log = search rules in
+    there c.args.self.now c.args.by.now x y f c.requires.own.number legal c.with_turn.new.turn is (ap events_of same)
+
+pub returns-clause-found : goal.returns-clause-found
+returns-clause-found g c = let (x, y, f, ran, is) = c.with_turn.ensures.turn in
+    let same : y ≡ x = search rules in
+    let legal : IsLegal x.settings x.log = search rules in
+    there c.args.self.now c.args.by.now x y f c.requires.own.number legal c.with_turn.new.turn is (ap events_of same)

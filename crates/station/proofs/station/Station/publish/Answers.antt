@@ -8,7 +8,7 @@ use Rattle.edition_form.specs.Editions.{IsEdition}
 use Rattle.station.specs.Added.{is_of_conductor}
 use Rattle.station.specs.Newest.{last_cut}
 use Rattle.station.specs.Shared.{events_of}
-use Rattle.station.proofs.Turning.{made_after, longer, begins_after, publishable, published}
+use Rattle.station.proofs.Turning.{made_after, longer, begins_after, publishable, published, found_there}
 use Rattle.station.proofs.station.Station.publish.Goals as goal
 
 pub with_turn-requires-clause-may : goal.with_turn-requires-clause-may
@@ -36,3 +36,9 @@ returns-clause-publishes g c = let (x, y, f, ran, is) = c.with_turn.ensures.turn
     let at : IfOk c.with_turn.result (λ (index : ℕ). index ≡ length (events_of x)) = search rules in
     let grown : OnOk c.with_turn.result (y.log ≡ appended x.log (events.Publish e.number e.cut)) = search rules in
     published c.args.self.now c.args.by.now x y f c.requires.own.number legal _ c.with_turn.result e is at grown
+
+pub returns-clause-found : goal.returns-clause-found
+returns-clause-found g c = let (x, y, f, ran, is) = c.with_turn.ensures.turn in
+    let legal : IsLegal x.settings x.log = search rules in
+    let err : OnErr c.with_turn.result (y.log ≡ x.log) = search rules in
+    found_there c.args.self.now c.args.by.now x y f c.requires.own.number legal c.with_turn.new.turn c.with_turn.result is err

@@ -6,7 +6,7 @@ use Rattle.admission_log.specs.Histories.{appended, last_of}
 use Rattle.admission_log.specs.Legality.{IsLegal}
 use Rattle.station.specs.Added.{is_of_conductor}
 use Rattle.station.specs.Shared.{events_of}
-use Rattle.station.proofs.Turning.{made_after, longer, begins_after, ticked, too_old}
+use Rattle.station.proofs.Turning.{made_after, longer, begins_after, ticked, found_there, too_old}
 use Rattle.station.proofs.station.Station.tick.Goals as goal
 
 pub invariant_of-by-clause-made : goal.invariant_of-by-clause-made
@@ -35,3 +35,9 @@ returns-clause-old g c = let (x, y, f, ran, is) = c.with_turn.ensures.turn in
     let old : (last : ℕ) → c.with_turn.result ≡ Err (errors.Old last) → (last ≡ last_of x.log) × (c.args.time ≤ last_of x.log) = search rules in
     let err : OnErr c.with_turn.result (y.log ≡ x.log) = search rules in
     too_old c.args.self.now c.args.by.now x y f c.requires.own.number legal _ c.with_turn.result c.args.time is old err
+
+pub returns-clause-found : goal.returns-clause-found
+returns-clause-found g c = let (x, y, f, ran, is) = c.with_turn.ensures.turn in
+    let legal : IsLegal x.settings x.log = search rules in
+    let err : OnErr c.with_turn.result (y.log ≡ x.log) = search rules in
+    found_there c.args.self.now c.args.by.now x y f c.requires.own.number legal c.with_turn.new.turn c.with_turn.result is err
