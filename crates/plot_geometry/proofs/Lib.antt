@@ -8,3 +8,4 @@ pub mod PlaneLaws
 pub mod Table
 pub mod Terms
 pub mod TurnLaws
+pub mod Shifts

@@ -1,8 +1,7 @@
 // Sine and cosine of an angle in 360/65,536 degrees, and a turn by it.
 ghost use Rattle.std.specs.Prelude.{◌≡◌, ◌<◌, ◌≤◌, ◌^◌, ◌+◌, ◌*◌, ℤ, pos, neg_ℤ, unsigned_abs};
+ghost use Rattle.trk_base.specs.Numbers.{round};
 ghost use Rattle.plot_geometry.specs.Turns.{half_angle, turned, sine_cosine, scaled, rotated, norm};
-
-use trk_base::round_div;
 
 // Cosine and sine of the angle of each bit k, which is 2 ^ k in 360/65,536 degrees, in 2 ^ -40.
 // Each entry below the last two is that of half the angle of the entry after it.
@@ -34,6 +33,15 @@ pub(crate) fn half_angle(k: usize) -> (i64, i64)
     HALF_ANGLES[k]
 }
 
+// `a` in units of 2^-40.
+#[inline]
+fn round_shift(a: i128) -> i128
+    requires { unsigned_abs a ≤ 2 ^ 125 }
+    ensures { result ≡ round a (pos (2 ^ 40)) }
+{
+    (a + (1 << 39)) >> 40
+}
+
 // A sine and a cosine, turned on by the angle of bit k.
 fn turned(k: usize, s: i64, c: i64) -> (i64, i64)
     requires index { k < 16 }
@@ -47,8 +55,8 @@ fn turned(k: usize, s: i64, c: i64) -> (i64, i64)
     let s = s as i128;
     let c = c as i128;
     (
-        round_div(s * cosine + c * sine, 1 << 40) as i64,
-        round_div(c * cosine - s * sine, 1 << 40) as i64,
+        round_shift(s * cosine + c * sine) as i64,
+        round_shift(c * cosine - s * sine) as i64,
     )
 }
 
@@ -75,7 +83,7 @@ pub(crate) fn scaled(length: i64, sine: i128) -> i64
     ensures value { result ≡ scaled length sine }
     ensures bound { unsigned_abs result ≤ 2 * unsigned_abs length }
 {
-    round_div(i128::from(length) * sine, 1 << 40) as i64
+    round_shift(i128::from(length) * sine) as i64
 }
 
 /// The point at the distance `r` in the direction of an angle in 360/65,536 degrees, clockwise

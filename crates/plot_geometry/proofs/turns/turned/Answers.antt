@@ -1,9 +1,9 @@
-use Rattle.std.proofs.Common.{◌≡◌, ◌∙◌, ap, arith, subst, sym, lit<, ℕ, ℤ, pos, ◌<◌, ◌≤◌, ◌^◌, ◌+◌, ◌+ℤ◌, ◌-ℤ◌, ◌*ℤ◌}
+use Rattle.std.proofs.Common.{◌≡◌, ◌∙◌, ap, arith, subst, sym, lit<, lit≤, ℕ, ℤ, pos, ◌<◌, ◌≤◌, ◌^◌, ◌+◌, ◌+ℤ◌, ◌-ℤ◌, ◌*ℤ◌}
 use Rattle.std.specs.Prelude.{unsigned_abs, FitsSigned}
 use Rattle.std.specs.Int.{w64, w128, cast_signed, cast_unsigned}
 use Rattle.std.proofs.lemmas.Int.{fits_signed_from_abs}
 use Rattle.trk_base.specs.Numbers.{round}
-use Rattle.trk_base.proofs.Sizes.{Is, wide, times, plus, minus, rounded, is_mul, is_add, is_sub, is_cast64, fits, below}
+use Rattle.trk_base.proofs.Sizes.{Is, wide, times, plus, minus, rounded, is_mul, is_add, is_sub, is_cast64, fits, size}
 use Rattle.plot_geometry.specs.Turns.{turned, norm}
 use Rattle.plot_geometry.proofs.Lengths.{side, turn_norm}
 use Rattle.plot_geometry.proofs.turns.turned.Goals as goal
@@ -50,13 +50,13 @@ fits64 {x} {y} {m} h small = fits_signed_from_abs w64 x (rw h.same (omega (arith
 pub overflow_cast-result : goal.overflow_cast-result
 overflow_cast-result c =
     fits64
-    (rounded (2 ^ 40) c.round_div.ensures (sine_sum c.args.s c.args.c c.half_angle-cosine.result.0 c.half_angle-cosine.result.1 c.requires.small c.half_angle-cosine.ensures.cosine c.half_angle-cosine.ensures.sine) tt tt)
+    (rounded (2 ^ 40) c.round_shift.ensures (sine_sum c.args.s c.args.c c.half_angle-cosine.result.0 c.half_angle-cosine.result.1 c.requires.small c.half_angle-cosine.ensures.cosine c.half_angle-cosine.ensures.sine) tt tt)
     (lit< tt)
 
 pub overflow_cast-result-2 : goal.overflow_cast-result-2
 overflow_cast-result-2 c =
     fits64
-    (rounded (2 ^ 40) c.round_div-2.ensures (cosine_sum c.args.s c.args.c c.half_angle-cosine.result.0 c.half_angle-cosine.result.1 c.requires.small c.half_angle-cosine.ensures.cosine c.half_angle-cosine.ensures.sine) tt tt)
+    (rounded (2 ^ 40) c.round_shift-2.ensures (cosine_sum c.args.s c.args.c c.half_angle-cosine.result.0 c.half_angle-cosine.result.1 c.requires.small c.half_angle-cosine.ensures.cosine c.half_angle-cosine.ensures.sine) tt tt)
     (lit< tt)
 
 pub overflow_mul-s : goal.overflow_mul-s
@@ -70,8 +70,8 @@ overflow_add-s c =
     let z = own c.args.s c.args.c c.requires.small in
     fits (is_add (product c.args.s c.half_angle-cosine.result.0 z.0 c.half_angle-cosine.ensures.cosine) (product c.args.c c.half_angle-cosine.result.1 z.1 c.half_angle-cosine.ensures.sine)) (lit< tt)
 
-pub round_div-requires-clause-small : goal.round_div-requires-clause-small
-round_div-requires-clause-small c = below (sine_sum c.args.s c.args.c c.half_angle-cosine.result.0 c.half_angle-cosine.result.1 c.requires.small c.half_angle-cosine.ensures.cosine c.half_angle-cosine.ensures.sine) (lit< tt)
+pub round_shift-requires : goal.round_shift-requires
+round_shift-requires c = size (sine_sum c.args.s c.args.c c.half_angle-cosine.result.0 c.half_angle-cosine.result.1 c.requires.small c.half_angle-cosine.ensures.cosine c.half_angle-cosine.ensures.sine) (lit≤ tt)
 
 pub overflow_mul-c-2 : goal.overflow_mul-c-2
 overflow_mul-c-2 c = product_fits c.args.c c.half_angle-cosine.result.0 (own c.args.s c.args.c c.requires.small).1 c.half_angle-cosine.ensures.cosine
@@ -84,18 +84,18 @@ overflow_sub-c c =
     let z = own c.args.s c.args.c c.requires.small in
     fits (is_sub (product c.args.c c.half_angle-cosine.result.0 z.1 c.half_angle-cosine.ensures.cosine) (product c.args.s c.half_angle-cosine.result.1 z.0 c.half_angle-cosine.ensures.sine)) (lit< tt)
 
-pub round_div-requires-2-clause-small : goal.round_div-requires-2-clause-small
-round_div-requires-2-clause-small c = below (cosine_sum c.args.s c.args.c c.half_angle-cosine.result.0 c.half_angle-cosine.result.1 c.requires.small c.half_angle-cosine.ensures.cosine c.half_angle-cosine.ensures.sine) (lit< tt)
+pub round_shift-requires-2 : goal.round_shift-requires-2
+round_shift-requires-2 c = size (cosine_sum c.args.s c.args.c c.half_angle-cosine.result.0 c.half_angle-cosine.result.1 c.requires.small c.half_angle-cosine.ensures.cosine c.half_angle-cosine.ensures.sine) (lit≤ tt)
 
 pub returns-clause-value : goal.returns-clause-value
 returns-clause-value c =
-    pair_is c.args.s c.args.c c.half_angle-cosine.result c.requires.small c.half_angle-cosine.ensures.cosine c.half_angle-cosine.ensures.sine c.round_div.ensures c.round_div-2.ensures
+    pair_is c.args.s c.args.c c.half_angle-cosine.result c.requires.small c.half_angle-cosine.ensures.cosine c.half_angle-cosine.ensures.sine c.round_shift.ensures c.round_shift-2.ensures
     ∙ ap (λ b. turned b (c.args.s, c.args.c)) c.half_angle-cosine.ensures.value
 
 pub returns-clause-norm : goal.returns-clause-norm
 returns-clause-norm c =
     let value =
-    pair_is c.args.s c.args.c c.half_angle-cosine.result c.requires.small c.half_angle-cosine.ensures.cosine c.half_angle-cosine.ensures.sine c.round_div.ensures c.round_div-2.ensures
+    pair_is c.args.s c.args.c c.half_angle-cosine.result c.requires.small c.half_angle-cosine.ensures.cosine c.half_angle-cosine.ensures.sine c.round_shift.ensures c.round_shift-2.ensures
     ∙ ap (λ b. turned b (c.args.s, c.args.c)) c.half_angle-cosine.ensures.value
     in
     subst (λ (p : ℤ × ℤ). norm p.0 p.1 ≤ norm c.args.s c.args.c + 2 ^ 44) (sym value) (turn_norm c.args.k c.args.s c.args.c c.requires.index c.requires.small)
