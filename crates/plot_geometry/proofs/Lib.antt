@@ -9,3 +9,4 @@ pub mod Table
 pub mod Terms
 pub mod TurnLaws
 pub mod Shifts
+pub mod Starts

@@ -2,13 +2,18 @@ use Rattle.std.proofs.Common.{◌≡◌, ◌∙◌, ap, sym, subst, arith, ◌+�
 use Rattle.std.specs.Prelude.{unsigned_abs}
 use Rattle.std.specs.Int.{w64, w128, cast_signed, cast_unsigned}
 use Rattle.plot_geometry.specs.Turns.{turns, sine_cosine, norm}
-use Rattle.plot_geometry.proofs.TurnLaws.{turns_on, turns_past, turns_done, turns_begin}
+use Rattle.plot_geometry.proofs.TurnLaws.{turns_on, turns_past, turns_done}
 use Rattle.plot_geometry.proofs.Lengths.{side}
 use Rattle.plot_geometry.proofs.Terms.{norm_through, wide_through}
 use Rattle.plot_geometry.proofs.turns.sine_cosine.Goals as goal
 
 pub loop-k-init : goal.loop-k-init
-loop-k-init c = record { turned = turns_begin c.args.angle; norm = omega arith }
+loop-k-init c =
+    let pair = norm_through c.start-s.result.0 c.start-s.result.1 (omega (arith, c.start-s.ensures.norm)) in
+    record {
+      turned = ap (turns 10 c.args.angle) pair ∙ c.start-s.ensures.turned c.args.angle (omega arith);
+      norm = subst (λ (p : ℤ × ℤ). norm p.0 p.1 ≤ 2 ^ 80 + 6 * 2 ^ 44) (sym pair) c.start-s.ensures.norm;
+    }
 
 pub loop-k-preserved-then-angle-k-eq1 : goal.loop-k-preserved-then-angle-k-eq1
 loop-k-preserved-then-angle-k-eq1 c =
