@@ -2,6 +2,7 @@
 ghost use Rattle.std.specs.Prelude.{◌↔◌, pos, IsTrue};
 ghost use Rattle.trk_base.specs.Numbers.{IsBetween};
 ghost use Rattle.fixed_imm.specs.Constants.{greatest_time_step};
+ghost use Rattle.fixed_imm.specs.Bounds.{IsPosition};
 ghost use Rattle.gating.specs.Coarse.{IsIn, IsCoarseGate};
 
 use crate::gates::REACH;
@@ -63,8 +64,6 @@ impl CoarseGate {
 
 #[cfg(test)]
 mod tests {
-    ghost use Rattle.fixed_imm.specs.Bounds.{IsPosition};
-
     use super::*;
     use fixed_imm::Axis;
     use trk_base::Key;
