@@ -1,6 +1,6 @@
 -- A conductor that publishes all that it gathers.
 use Rattle.std.proofs.Common.{◌≡◌, ◌∙◌, ap, sym, subst, refl, ℕ, ◌+◌, ◌-◌, ◌≤◌, List, [], ◌∷◌, ◌++◌, length, take, fold, max, append-nil, append_assoc, arith}
-use Rattle.std.specs.Prelude.{Result, Ok, Err, IfOk, OnOk, OnErr}
+use Rattle.std.specs.Prelude.{Result, Ok, Err, IfOk, OnErr}
 use Rattle.std.proofs.lemmas.List.{take_all, length-append}
 use Rattle.std.proofs.Math.Seq.{take-append_seam}
 use Rattle.std.proofs.Math.Nat.{max-eq_right}
@@ -12,7 +12,6 @@ use Rattle.admission_log.specs.Histories.{History, first, publications_of, publi
 use Rattle.admission_log.specs.Legality.{IsLegal}
 use Rattle.admission_log.proofs.Growing.{publications-appended}
 use Rattle.edition_form.specs.declared.edition.Built.{Built}
-use Rattle.edition_form.specs.declared.edition.Edition.{Edition}
 use Rattle.edition_form.specs.Datagrams.{shown_at}
 use Rattle.edition_form.specs.Editions.{IsEdition}
 use Rattle.tracker_engine.specs.Engines.{EngineState, StandsFor, Continues, with_events}

@@ -1,4 +1,4 @@
-use Rattle.std.proofs.Common.{◌∙◌, sym, subst, List, arith}
+use Rattle.std.proofs.Common.{◌∙◌, sym, subst, List}
 use Rattle.admission_log.specs.declared.events.Event.{Event}
 use Rattle.station.specs.Tokens.{settings_of}
 use Rattle.station.specs.Turns.{OnlySaw, Gathers}

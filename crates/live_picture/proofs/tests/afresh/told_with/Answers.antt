@@ -2,7 +2,7 @@ use Rattle.tracker_engine.specs.Engines.{with_events}
 use Rattle.live_picture.proofs.tests.afresh.told_with.Goals as goal
 
 pub advance-requires-clause-standing : goal.advance-requires-clause-standing
-advance-requires-clause-standing g c =
+advance-requires-clause-standing g c κs within =
     let k = c.requires.continues in
     record {
       settings = k.settings;
