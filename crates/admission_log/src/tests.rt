@@ -1,3 +1,4 @@
+// A log under one radar: what becomes of messages, ticks, changes of biases and editions.
 ghost use Rattle.std.specs.Prelude.{◌≡◌, ◌+◌, ◌<◌, ◌≤◌, ◌^◌, length, unsigned_abs};
 
 use crate::*;

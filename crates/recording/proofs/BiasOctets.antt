@@ -6,7 +6,7 @@ use Rattle.std.proofs.lemmas.Bool.{cases_lt}
 use Rattle.std.proofs.lemmas.Int.{fits_signed_from_abs}
 use Rattle.plot_geometry.specs.declared.biases.Bias.{Bias}
 use Rattle.recording.specs.declared.ending.Ending.{Ending}
-use Rattle.recording.specs.declared.ending.Ending.TheVariants.{Nothing, Other, Cut}
+use Rattle.recording.specs.declared.ending.Ending.TheVariants.{Nothing, Other, Truncated}
 use Rattle.recording.specs.declared.header.Header.TheVariants.{Second}
 use Rattle.asterix_frame.specs.Values.{big_endian}
 use Rattle.recording.specs.Biases.{Numbers, FitOctets, IsWrong, HasWrongNumber, IsTruncatedBias, NumberEnds, bias_octets, signed_octets, slot_limit}
@@ -227,7 +227,7 @@ azimuth_truncated radar slot gain range after f g r bytes short =
 -- where no number begins, no item does
 pub gain_ends : (ending : Ending) (radar slot : ℕ) (after : List ℕ) → Slot radar slot → IsBytes after → NumberEnds 10000 ending after → ItemsEnd Second ending (at_gain radar slot after)
 gain_ends Nothing radar slot after f bytes h = absurd h
-gain_ends Cut radar slot after f bytes h = inr (gain_truncated radar slot after f bytes h)
+gain_ends Truncated radar slot after f bytes h = inr (gain_truncated radar slot after f bytes h)
 gain_ends Other radar slot after f bytes h =
     inr (record {
       numbers = record { radar = radar; slot = slot; gain = h.0; range = pos 0; azimuth = pos 0 };
@@ -240,7 +240,7 @@ gain_ends Other radar slot after f bytes h =
 
 pub range_ends : (ending : Ending) (radar slot : ℕ) (gain : ℤ) (after : List ℕ) → Slot radar slot → unsigned_abs gain ≤ 10000 → IsBytes after → NumberEnds 1000 ending after → ItemsEnd Second ending (at_range radar slot gain after)
 range_ends Nothing radar slot gain after f g bytes h = absurd h
-range_ends Cut radar slot gain after f g bytes h = inr (range_truncated radar slot gain after f g bytes h)
+range_ends Truncated radar slot gain after f g bytes h = inr (range_truncated radar slot gain after f g bytes h)
 range_ends Other radar slot gain after f g bytes h =
     inr (record {
       numbers = record { radar = radar; slot = slot; gain = gain; range = h.0; azimuth = pos 0 };
@@ -253,7 +253,7 @@ range_ends Other radar slot gain after f g bytes h =
 
 pub azimuth_ends : (ending : Ending) (radar slot : ℕ) (gain range : ℤ) (after : List ℕ) → Slot radar slot → unsigned_abs gain ≤ 10000 → unsigned_abs range ≤ 1000 → IsBytes after → NumberEnds 1000 ending after → ItemsEnd Second ending (at_azimuth radar slot gain range after)
 azimuth_ends Nothing radar slot gain range after f g r bytes h = absurd h
-azimuth_ends Cut radar slot gain range after f g r bytes h = inr (azimuth_truncated radar slot gain range after f g r bytes h)
+azimuth_ends Truncated radar slot gain range after f g r bytes h = inr (azimuth_truncated radar slot gain range after f g r bytes h)
 azimuth_ends Other radar slot gain range after f g r bytes h =
     inr (record {
       numbers = record { radar = radar; slot = slot; gain = gain; range = range; azimuth = h.0 };
@@ -307,7 +307,7 @@ azimuth_stops octets radar slot a gain b range d ending bytes s g r h =
 
 -- a number of at most this size, or why there is none
 abbrev Number : ℕ → List ℕ → Type 0
-Number size octets = ((z : ℤ) × (unsigned_abs z ≤ size) × (next : List ℕ) × (octets ≡ signed_octets z ++ next)) ⊎ (NumberEnds size Other octets ⊎ NumberEnds size Cut octets)
+Number size octets = ((z : ℤ) × (unsigned_abs z ≤ size) × (next : List ℕ) × (octets ≡ signed_octets z ++ next)) ⊎ (NumberEnds size Other octets ⊎ NumberEnds size Truncated octets)
 
 number : (size : ℕ) (octets : List ℕ) → IsBytes octets → Number size octets
 number size [] bytes = inr (inr (omega arith))
@@ -333,7 +333,7 @@ at_azimuth_begins radar slot gain range after f g r bytes =
         whole = ap (at_azimuth radar slot gain range) n.3;
       })
       | inr (inl o) ↦ inr (inl (azimuth_ends Other radar slot gain range after f g r bytes o))
-      | inr (inr c) ↦ inr (inr (azimuth_ends Cut radar slot gain range after f g r bytes c))
+      | inr (inr c) ↦ inr (inr (azimuth_ends Truncated radar slot gain range after f g r bytes c))
     ]
 
 at_range_begins : (radar slot : ℕ) (gain : ℤ) (after : List ℕ) → Slot radar slot → unsigned_abs gain ≤ 10000 → IsBytes after → BeginsSecond (at_range radar slot gain after)
@@ -341,7 +341,7 @@ at_range_begins radar slot gain after f g bytes =
     elim (number 1000 after bytes) [
       | inl n ↦ subst (λ t. BeginsSecond (at_range radar slot gain t)) (sym n.3) (at_azimuth_begins radar slot gain n.0 n.2 f g n.1 (rest_bytes after (signed_octets n.0) n.2 bytes n.3))
       | inr (inl o) ↦ inr (inl (range_ends Other radar slot gain after f g bytes o))
-      | inr (inr c) ↦ inr (inr (range_ends Cut radar slot gain after f g bytes c))
+      | inr (inr c) ↦ inr (inr (range_ends Truncated radar slot gain after f g bytes c))
     ]
 
 at_gain_begins : (radar slot : ℕ) (after : List ℕ) → Slot radar slot → IsBytes after → BeginsSecond (at_gain radar slot after)
@@ -349,7 +349,7 @@ at_gain_begins radar slot after f bytes =
     elim (number 10000 after bytes) [
       | inl n ↦ subst (λ t. BeginsSecond (at_gain radar slot t)) (sym n.3) (at_range_begins radar slot n.0 n.2 f n.1 (rest_bytes after (signed_octets n.0) n.2 bytes n.3))
       | inr (inl o) ↦ inr (inl (gain_ends Other radar slot after f bytes o))
-      | inr (inr c) ↦ inr (inr (gain_ends Cut radar slot after f bytes c))
+      | inr (inr c) ↦ inr (inr (gain_ends Truncated radar slot after f bytes c))
     ]
 
 slot_begins : (radar slot : ℕ) (after : List ℕ) → radar < 256 → slot < 2 ^ 40 → IsBytes after → BeginsSecond (at_gain radar slot after)

@@ -209,10 +209,10 @@ item_begins Second (tick time) more fits (inr h) = let w = wrong_first _ h in om
 item_begins Second (datagram feed octets) more fits (inr h) = let w = wrong_first _ h in omega (arith, first_differs 2 3 _ w.0 _ refl w.1)
 item_begins Second (bias radar slot b) more fits (inr h) = bias_right radar slot b _ more fits refl h
 
-cut_some : (h : Header) (rest : List ℕ) → IsTruncatedItem h rest → 0 < length rest
-cut_some First rest c = c.begun
-cut_some Second rest (inl c) = c.begun
-cut_some Second rest (inr c) = c.begun
+partial_some : (h : Header) (rest : List ℕ) → IsTruncatedItem h rest → 0 < length rest
+partial_some First rest c = c.begun
+partial_some Second rest (inl c) = c.begun
+partial_some Second rest (inr c) = c.begun
 
 widened : (rest : List ℕ) → IsTruncatedPlain rest → IsTruncated Item (IsItem Second) item_octets rest
 widened rest c = record { one = c.one; fits = in_second First c.one c.fits; more = c.more; begun = c.begun; missing = c.missing; whole = c.whole }
@@ -223,10 +223,10 @@ bias_first rest (tick time) next c e = omega (arith, first_differs 1 3 _ _ _ ref
 bias_first rest (datagram feed octets) next c e = omega (arith, first_differs 2 3 _ _ _ refl (ap (λ t. t ++ c.more) (sym e) ∙ sym c.whole))
 bias_first rest (bias radar slot b) next c e = omega (arith, ap length c.whole, length-append rest c.more, ap length e, c.missing)
 
-cut_first : (h : Header) (rest : List ℕ) (item : Item) (next : List ℕ) → IsTruncatedItem h rest → IsItem h item → rest ≡ item_octets item ++ next → ⊥
-cut_first First rest item next c fits e = truncated_first (items_same First) rest item next c fits e
-cut_first Second rest item next (inl c) fits e = truncated_first (items_same Second) rest item next (widened rest c) fits e
-cut_first Second rest item next (inr c) fits e = bias_first rest item next c e
+partial_first : (h : Header) (rest : List ℕ) (item : Item) (next : List ℕ) → IsTruncatedItem h rest → IsItem h item → rest ≡ item_octets item ++ next → ⊥
+partial_first First rest item next c fits e = truncated_first (items_same First) rest item next c fits e
+partial_first Second rest item next (inl c) fits e = truncated_first (items_same Second) rest item next (widened rest c) fits e
+partial_first Second rest item next (inr c) fits e = bias_first rest item next c e
 
 plain_first : (item : Item) (first : ℕ) (rest : List ℕ) → Plain item → item_octets item ≡ first ∷ rest → (first ≡ 1) ⊎ (first ≡ 2)
 plain_first (tick time) first rest fits e = inl (sym (tail_same 1 first _ rest e).0)
@@ -247,16 +247,16 @@ wrong_truncated octets w c =
     let within : w.end ≤ length octets = omega (arith, ap length w.whole, length-append (take w.end (bias_octets w.numbers)) w.rest, wrong_length w.end w.numbers w.wrong) in
     c.right w.end within (wrong_alike w.end w.numbers c.numbers (w.rest ++ c.more) [] w.fit c.fit agrees w.wrong)
 
-other_cut : (h : Header) (rest : List ℕ) → IsNoItem h rest → IsTruncatedItem h rest → ⊥
-other_cut First [] o c = absurd o
-other_cut Second [] o c = absurd o
-other_cut First (first ∷ rest) o c = plain_other first rest c o.0 o.1
-other_cut Second (first ∷ rest) (inl o) (inl c) = plain_other first rest c o.0 o.1
-other_cut Second (first ∷ rest) (inl o) (inr c) = o.2 (sym (tail_same 3 first _ (rest ++ c.more) c.whole).0)
-other_cut Second (first ∷ rest) (inr o) (inl c) =
+other_partial : (h : Header) (rest : List ℕ) → IsNoItem h rest → IsTruncatedItem h rest → ⊥
+other_partial First [] o c = absurd o
+other_partial Second [] o c = absurd o
+other_partial First (first ∷ rest) o c = plain_other first rest c o.0 o.1
+other_partial Second (first ∷ rest) (inl o) (inl c) = plain_other first rest c o.0 o.1
+other_partial Second (first ∷ rest) (inl o) (inr c) = o.2 (sym (tail_same 3 first _ (rest ++ c.more) c.whole).0)
+other_partial Second (first ∷ rest) (inr o) (inl c) =
     let three : first ≡ 3 = (tail_same first 3 rest _ (wrong_first (first ∷ rest) o).1).0 in
     plain_other first rest c (λ e. omega (arith, e, three)) (λ e. omega (arith, e, three))
-other_cut Second (first ∷ rest) (inr o) (inr c) = wrong_truncated (first ∷ rest) o c
+other_partial Second (first ∷ rest) (inr o) (inr c) = wrong_truncated (first ∷ rest) o c
 
 pub items_code : (h : Header) → IsCode Item (IsItem h) item_octets (IsNoItem h) (IsTruncatedItem h)
 items_code h =
@@ -266,9 +266,9 @@ items_code h =
       other_some = no_item h;
       goes_on = no_item_on h;
       none = item_begins h;
-      cut_some = cut_some h;
-      cut_first = cut_first h;
-      other_cut = other_cut h;
+      partial_some = partial_some h;
+      partial_first = partial_first h;
+      other_partial = other_partial h;
     }
 
 pub four_parts : (a b c d v : ℕ) (x y : List ℕ) → a ∷ b ∷ c ∷ d ∷ x ≡ 77 ∷ 82 ∷ 84 ∷ v ∷ y → (a ≡ 77) × (b ≡ 82) × (c ≡ 84) × (d ≡ v)

@@ -4,7 +4,7 @@ use Rattle.std.specs.Prelude.{true, Option, Some, None}
 use Rattle.std.specs.List.{flat_map}
 use Rattle.asterix_frame.specs.Blocks.{encoding}
 use Rattle.recording.specs.declared.ending.Ending.{Ending}
-use Rattle.recording.specs.declared.ending.Ending.TheVariants.{Nothing, Other, Cut}
+use Rattle.recording.specs.declared.ending.Ending.TheVariants.{Nothing, Other, Truncated}
 use Rattle.recording.specs.declared.header.Header.{Header}
 use Rattle.recording.specs.Endings.{AreWritten, fault_of}
 use Rattle.recording.specs.Items.{Item}
@@ -21,12 +21,12 @@ some_same a b e = cc
 faulty : (ending : Ending) (offset at end : ℕ) → Some offset ≡ fault_of ending true at end → offset < end → (ending ≡ Other) × (offset ≡ at)
 faulty Nothing offset at end e before = absurd (omega (arith, some_same offset end e, before))
 faulty Other offset at end e before = (refl, some_same offset at e)
-faulty Cut offset at end e before = absurd (omega (arith, some_same offset end e, before))
+faulty Truncated offset at end e before = absurd (omega (arith, some_same offset end e, before))
 
 -- these stay so, however the octets go on
-written_on : {T : Type 0} {Fits : T → Type 0} {encoded : T → List ℕ} {IsOther : List ℕ → Type 0} {IsCut : List ℕ → Type 0} (code : IsCode T Fits encoded IsOther IsCut) (octets more : List ℕ) (things : List T) (ending : Ending) → ending ≡ Other → AreWritten T Fits encoded IsOther IsCut octets things ending → AreWritten T Fits encoded IsOther IsCut (octets ++ more) things Other
-written_on {T} {Fits} {encoded} {IsOther} {IsCut} code octets more things ending e h =
-    let k : AreWritten T Fits encoded IsOther IsCut octets things Other = subst (AreWritten T Fits encoded IsOther IsCut octets things) e h in
+written_on : {T : Type 0} {Fits : T → Type 0} {encoded : T → List ℕ} {IsOther : List ℕ → Type 0} {IsPartial : List ℕ → Type 0} (code : IsCode T Fits encoded IsOther IsPartial) (octets more : List ℕ) (things : List T) (ending : Ending) → ending ≡ Other → AreWritten T Fits encoded IsOther IsPartial octets things ending → AreWritten T Fits encoded IsOther IsPartial (octets ++ more) things Other
+written_on {T} {Fits} {encoded} {IsOther} {IsPartial} code octets more things ending e h =
+    let k : AreWritten T Fits encoded IsOther IsPartial octets things Other = subst (AreWritten T Fits encoded IsOther IsPartial octets things) e h in
     record {
       fit = k.fit;
       rest = k.rest ++ more;

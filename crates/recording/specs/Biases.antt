@@ -3,7 +3,7 @@ use Rattle.std.specs.Prelude.{◌≡◌, ◌<◌, ◌≤◌, ◌^◌, ◌⊎◌,
 use Rattle.std.specs.Int.{w16, cast_unsigned}
 use Rattle.asterix_frame.specs.Values.{big_endian}
 use Rattle.recording.specs.declared.ending.Ending.{Ending}
-use Rattle.recording.specs.declared.ending.Ending.TheVariants.{Nothing, Other, Cut}
+use Rattle.recording.specs.declared.ending.Ending.TheVariants.{Nothing, Other, Truncated}
 
 -- a signed number in two octets, as two's complement
 abbrev pub signed_octets : ℤ → List ℕ
@@ -60,4 +60,4 @@ pub record IsTruncatedBias (octets : List ℕ) : Type 0 where
 abbrev pub NumberEnds : ℕ → Ending → List ℕ → Type 0
 NumberEnds size Nothing octets = ⊥
 NumberEnds size Other octets = (z : ℤ) × (size < unsigned_abs z) × FitsSigned w16 z × (rest : List ℕ) × (octets ≡ signed_octets z ++ rest)
-NumberEnds size Cut octets = length octets < 2
+NumberEnds size Truncated octets = length octets < 2

@@ -9,7 +9,7 @@ pub enum Ending {
     /// Octets that begin none, however they go on.
     Other,
     /// A prefix of one, and not all of it.
-    Cut,
+    Truncated,
 }
 
 impl Ending {
@@ -23,8 +23,8 @@ impl Ending {
         ensures { result ≡ fault_of self goes_on offset end }
     {
         match (self, goes_on) {
-            (Ending::Other, _) | (Ending::Cut, false) => Some(offset),
-            (Ending::Nothing | Ending::Cut, true) => Some(end),
+            (Ending::Other, _) | (Ending::Truncated, false) => Some(offset),
+            (Ending::Nothing | Ending::Truncated, true) => Some(end),
             (Ending::Nothing, false) => None,
         }
     }

@@ -143,7 +143,7 @@ fn no_block(octets: &[u8]) -> Ending
 {
     match octets {
         [_, 0, 0..=2, ..] => Ending::Other,
-        _ => Ending::Cut,
+        _ => Ending::Truncated,
     }
 }
 

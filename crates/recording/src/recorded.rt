@@ -56,7 +56,7 @@ fn first_tick(octets: &[u8]) -> Result<(Item<'_>, &[u8]), Ending>
     ensures none { IfErr result (λ ending. (h : Header) → ItemsEnd h ending (1 ∷ octets.now)) }
 {
     let Some((time, next)) = first_time(octets) else {
-        return Err(Ending::Cut);
+        return Err(Ending::Truncated);
     };
     Ok((Item::Tick(time), next))
 }
@@ -67,11 +67,11 @@ fn first_datagram(octets: &[u8]) -> Result<(Item<'_>, &[u8]), Ending>
     ensures none { IfErr result (λ ending. (h : Header) → ItemsEnd h ending (2 ∷ octets.now)) }
 {
     let [feed, high, low, after @ ..] = octets else {
-        return Err(Ending::Cut);
+        return Err(Ending::Truncated);
     };
     let length = u16::from_be_bytes([*high, *low]) as usize;
     if after.len() < length {
-        return Err(Ending::Cut);
+        return Err(Ending::Truncated);
     }
     let (bytes, next) = after.split_at(length);
     Ok((Item::Datagram { feed: *feed, bytes }, next))
@@ -94,7 +94,7 @@ fn first_number(octets: &[u8], size: u16) -> Result<(i16, &[u8]), Ending>
     ensures none { IfErr result (λ ending. NumberEnds size ending octets.now) }
 {
     let Some((number, next)) = first_signed(octets) else {
-        return Err(Ending::Cut);
+        return Err(Ending::Truncated);
     };
     if number.unsigned_abs() > size {
         return Err(Ending::Other);
@@ -108,10 +108,10 @@ fn first_slot(octets: &[u8]) -> Result<(u8, u64, &[u8]), Ending>
     ensures none { IfErr result (λ ending. ItemsEnd Header.Second ending (3 ∷ octets.now)) }
 {
     let [radar, after @ ..] = octets else {
-        return Err(Ending::Cut);
+        return Err(Ending::Truncated);
     };
     let Some((slot, next)) = first_time(after) else {
-        return Err(Ending::Cut);
+        return Err(Ending::Truncated);
     };
     if slot >= SLOT_LIMIT {
         return Err(Ending::Other);

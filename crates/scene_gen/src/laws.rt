@@ -1,4 +1,4 @@
-//! What holds of the definition, and that the program's radars are those of it.
+// What holds of the definition, and that the program's radars are those of it.
 ghost use Rattle.std.specs.Prelude.{◌≡◌, ◌<◌, ◌≤◌, ◌^◌, ℕ, Some, None};
 ghost use Rattle.std.specs.List.{All};
 ghost use Rattle.recording.specs.Readings.{IsReading};

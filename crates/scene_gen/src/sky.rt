@@ -26,10 +26,13 @@ pub(crate) struct Sky {
     pub seconds: u16,
     /// How many of a hundred plots are late.
     pub late: u8,
+    /// One for each radar, by its feed.
     pub sweeps: Vec<Sweep>,
+    /// The directions that bearings have asked for so far.
     pub directions: Directions,
     /// What the delays are drawn from.
     pub generator: Pcg32,
+    /// The plots that were seen and haven't come yet.
     pub on_way: OnWay,
     /// The plots of one time; their room serves the next.
     pub plots: Vec<PlotOctets>,

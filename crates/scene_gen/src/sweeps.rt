@@ -17,7 +17,9 @@ use trk_base::NoMemory;
 /// The aircraft of a radar by their phases: in each turn of the antenna it sees them in this order.
 #[derive(Drop)]
 pub(crate) struct Sweep {
+    /// Whose antenna turns.
     pub radar: SceneRadar,
+    /// The aircraft of each phase, in 1/128 s from 0 up to the radar's period.
     pub by_phase: Buckets<Aircraft>,
 }
 

@@ -10,15 +10,21 @@ use trk_base::NoMemory;
 /// Something outside the program that can fail.
 #[derive(Clone, Copy, Debug, PartialEq, Eq)]
 pub enum Spot {
+    /// The document of the settings.
     Settings,
+    /// What a replay reads.
     Input,
+    /// What gets the editions of a replay, or a scene's recording.
     Output,
+    /// The price file, which a replay writes and a check reads.
     Prices,
+    /// The standard output.
     Screen,
     /// The feed with this number, from 0.
     Feed(u8),
     /// The outlet with this number, from 0.
     Outlet(u8),
+    /// The clock.
     Clock,
 }
 
@@ -31,7 +37,7 @@ pub enum Status {
     Usage,
     /// The settings have this fault.
     Settings(SettingsFault),
-    /// The input has a fault, and this is its offset.
+    /// The input, or the price file of a check, has a fault at this offset, in octets from 0.
     Input { offset: usize },
     /// Something couldn't be opened or read.
     Read(Spot),
@@ -47,7 +53,7 @@ pub enum Status {
 impl Status {
     ghost use Rattle.session_script.specs.Status.{exit_code};
 
-    /// The exit status of the program.
+    /// The exit status of the program: from 0 to 6, or 8.
     pub fn code(&self) -> u8
         ensures { result ≡ exit_code self.now }
     {

@@ -1,3 +1,4 @@
+// What can be wrong with settings, and where.
 use std::alloc::{AllocError, AllocFailed};
 
 /// Where in the settings something is wrong.
@@ -5,7 +6,7 @@ use std::alloc::{AllocError, AllocFailed};
 pub struct KeyPath {
     /// The index of the radar whose key it is, or None for a key of the system.
     pub radar: Option<u8>,
-    /// The number of the key.
+    /// The number of the key, from 1 to 19.
     pub key: u8,
 }
 
@@ -14,11 +15,11 @@ pub struct KeyPath {
 pub enum SettingsFault {
     /// More than 65,536 octets, or no UTF-8, or no TOML document.
     Syntax,
-    /// A required key isn't there.
+    /// A required key isn't there. Where there are no radars it is the first key of the first.
     Missing(KeyPath),
     /// A key's value isn't an integer.
     Kind(KeyPath),
-    /// A key's value is out of its range.
+    /// A key's value is out of its range. Of more than 32 radars it is the first key of the 33rd.
     Range(KeyPath),
     /// There is a key that no setting has.
     Unknown,

@@ -1,5 +1,5 @@
-//! The program's table of the keys. `laws::one_table` says that it is the list of the definition,
-//! `specs/Keys.antt`.
+// The program's table of the keys. `laws::one_table` says that it is the list of the definition,
+// `specs/Keys.antt`.
 
 /// The name of a key.
 #[derive(Clone, Copy, Debug, PartialEq, Eq)]

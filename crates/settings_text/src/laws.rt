@@ -1,4 +1,4 @@
-//! What the definitions themselves promise, and that the program's table of the keys is theirs.
+// What the definitions themselves promise, and that the program's table of the keys is theirs.
 ghost use Rattle.std.specs.Prelude.{◌≡◌, ℕ, List};
 ghost use Rattle.settings_text.specs.declared.keys.TheConstants.{RADAR_KEYS, SYSTEM_KEYS};
 ghost use Rattle.settings_text.specs.Keys.{radar_keys, system_keys};

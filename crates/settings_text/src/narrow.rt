@@ -1,4 +1,4 @@
-//! A number in the type of its setting, once its range is known.
+// A number in the type of its setting, once its range is known.
 ghost use Rattle.std.specs.Prelude.{◌≡◌, pos};
 ghost use Rattle.settings_text.specs.Keys.{minus};
 ghost use Rattle.settings_text.specs.Tables.{IsInRange};

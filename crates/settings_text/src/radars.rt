@@ -1,4 +1,4 @@
-//! Keys 8 to 19: the array of tables `radar`.
+// Keys 8 to 19: the array of tables `radar`.
 ghost use Rattle.std.specs.Prelude.{◌≡◌, ◌≤◌, length, vec_len, Some, IfOk, IfErr, IfSome, IfNone};
 ghost use Rattle.std.specs.List.{AllZip, list_all};
 ghost use Rattle.toml.specs.Data.{as_table};

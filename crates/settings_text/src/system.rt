@@ -1,4 +1,4 @@
-//! Keys 1 to 7: the table `system`.
+// Keys 1 to 7: the table `system`.
 ghost use Rattle.std.specs.Prelude.{◌≡◌, ◌≤◌, vec_len, IfOk, IfErr};
 ghost use Rattle.toml.specs.View.{table_view};
 ghost use Rattle.admission_log.specs.Sources.{HaveOwnSources};

@@ -1,4 +1,4 @@
-//! Reading the keys of one table.
+// Reading the keys of one table.
 ghost use Rattle.std.specs.Prelude.{◌≡◌, IfOk, IfErr, option_map};
 ghost use Rattle.toml.specs.Data.{as_integer, as_table, get_member};
 ghost use Rattle.toml.specs.View.{view, table_view};

@@ -1,3 +1,4 @@
+// Documents and what is told of them: a table a file, gone over by one loop.
 mod faults;
 mod ranges;
 mod reading;

@@ -1,4 +1,4 @@
-//! The faults as they are told.
+// The faults as they are told.
 use crate::faults::{KeyPath, SettingsFault};
 use std::fmt;
 

@@ -11,7 +11,9 @@ mod turns;
 /// Under which settings a station's log goes, and from which time on, in 1/128 s. No value of it is
 /// made.
 pub struct Base {
+    /// The settings under which plots are judged.
     pub settings: Settings,
+    /// When the log starts, in 1/128 s.
     pub start: u64,
 }
 

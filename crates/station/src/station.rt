@@ -33,11 +33,13 @@ pub struct Station {
 /// A station with its tokens.
 #[derive(Drop)]
 pub struct Opened {
+    /// The station, whose log has no event yet.
     pub station: Station,
     /// One for each feed, in rising number of the feed.
     pub feeders: Vec<Feeder>,
+    /// The one that ticks, gathers and publishes.
     pub conductor: Conductor,
-    /// One for each reader.
+    /// One for each reader, in rising number of the reader.
     pub subscribers: Vec<Subscriber>,
 }
 
@@ -48,6 +50,6 @@ pub struct Closed {
     pub start: u64,
     /// All events of the log.
     pub events: Vec<Event>,
-    /// The edition that was published last.
+    /// The edition that was published last, or None where there was none.
     pub latest: Option<Arc<Edition>>,
 }

@@ -42,6 +42,7 @@ pub struct EditionParts {
 /// events and tracks that one showed.
 #[derive(Drop)]
 pub struct Editions {
+    /// It has taken in the events that the last edition showed.
     pub engine: Engine,
     /// How many editions were given.
     pub number: u64,

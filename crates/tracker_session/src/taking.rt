@@ -21,9 +21,11 @@ use trk_base::NoMemory;
 /// that an edition has shown aren't kept, so that memory doesn't grow with them.
 #[derive(Drop)]
 pub struct Run {
+    /// What decides which events the log takes next.
     pub log: LogSummary,
     /// The events since the last edition.
     pub newest: Vec<Event>,
+    /// What became of the items so far.
     pub counts: Counts,
 }
 

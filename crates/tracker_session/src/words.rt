@@ -23,26 +23,26 @@ pub enum Command {
     },
     /// `scene SEED AIRCRAFT SECONDS LATE OUTPUT`: writes the recording of a scene.
     Scene {
-        /// What the scene is drawn from.
+        /// What the scene is drawn from, any number below 2^64.
         seed: u64,
         /// How many aircraft fly, from 1 to 2,000.
         aircraft: u16,
         /// For how many seconds they are seen, from 1 to 3,600.
         seconds: u16,
-        /// How many of a hundred plots come late.
+        /// How many of a hundred plots come late, from 0 to 100.
         late: u8,
         /// The name of the output, the recording.
         output: String,
     },
     /// `exercise SEED AIRCRAFT SECONDS LATE [--workers=N]`: replays a scene, and keeps nothing.
     Exercise {
-        /// What the scene is drawn from.
+        /// What the scene is drawn from, any number below 2^64.
         seed: u64,
         /// How many aircraft fly, from 1 to 2,000.
         aircraft: u16,
         /// For how many seconds they are seen, from 1 to 3,600.
         seconds: u16,
-        /// How many of a hundred plots come late.
+        /// How many of a hundred plots come late, from 0 to 100.
         late: u8,
         /// How many workers share the work, from 1 to 16.
         workers: u8,

@@ -1,3 +1,4 @@
+// Which fault comes first.
 use super::{RADAR, SYSTEM, entries, fault_of, joined, tells};
 use crate::{SETTINGS_LIMIT, SettingsError, SettingsFault, read_settings};
 use std::alloc::AllocError;

@@ -1,3 +1,4 @@
+// The range of each key: the numbers just outside of it are refused, by the number of the key.
 use super::fault_of;
 use crate::{KeyPath, SettingsFault};
 use std::alloc::{AllocError, Global};

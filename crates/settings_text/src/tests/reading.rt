@@ -1,3 +1,4 @@
+// Documents without a fault, and the values that they give.
 use super::{RADAR, SYSTEM, joined};
 use crate::read_settings;
 use admission_log::Settings;

@@ -1,3 +1,4 @@
+// `check`: price files that are proved, not proved, and none.
 use super::{Run, compare};
 use crate::{Spot, Status};
 use io_traits::Way;

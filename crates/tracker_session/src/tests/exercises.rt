@@ -1,3 +1,4 @@
+// `exercise`: what it tells, and that its settings are those of a document.
 use super::{NONE, Run, compare};
 use crate::scene_settings::scene_settings;
 use crate::{Spot, Status};

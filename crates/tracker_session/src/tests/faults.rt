@@ -1,3 +1,4 @@
+// What goes wrong in a replay: faults of what is read, and places and memory that fail.
 use super::{ALL, BOTH, EDITION, FIRST, ONE_PLOT, OPENED, PRICES, REPLAY, Run, SETTINGS, compare};
 use crate::{Spot, Status};
 use io_traits::Way;

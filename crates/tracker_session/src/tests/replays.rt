@@ -1,3 +1,4 @@
+// `replay`: inputs with what Output, Prices and Screen get of them.
 use super::{EDITION, ONE_PLOT, PRICES, compare, done};
 use std::alloc::Global;
 use std::test::Fail;

@@ -1,3 +1,4 @@
+// `scene`: the recording that Output gets, and how it fails.
 use super::{Run, compare};
 use crate::{Spot, Status};
 use io_traits::Way;

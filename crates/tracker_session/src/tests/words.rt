@@ -1,3 +1,4 @@
+// Words that are a command, and words that are none.
 use super::{NONE, ONE_PLOT, Run, SETTINGS, compare, words_of};
 use crate::{Command, Status, WordsError, parse_words};
 use std::alloc::Global;
