@@ -30,3 +30,4 @@ pub mod Looking
 pub mod Marking
 pub mod Places
 pub mod Covering
+pub mod Mixing

@@ -17,3 +17,4 @@ pub mod Beside
 pub mod ComponentEdges
 pub mod ToldComponents
 pub mod Moving
+pub mod MixedAims

@@ -41,9 +41,10 @@ pub(crate) fn step_batch(
     if plots.len() > u32::MAX as usize {
         return Err(NoMemory);
     }
-    let whole = batch_costs(alloc, tracks, plots)?;
+    let mut aims = Vec::new(alloc);
+    let whole = batch_costs(alloc, tracks, plots, &mut aims)?;
     let pairing = pair(alloc, tracks, plots, &whole, certs)?;
-    move_tracks(tracks, plots, &pairing, life)?;
+    move_tracks(tracks, plots, &pairing, &aims, life)?;
     if tracks.len() >= u32::MAX as usize {
         return Err(NoMemory);
     }

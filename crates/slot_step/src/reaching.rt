@@ -23,7 +23,8 @@ fn gate_one(alloc: Global, tracks: &[Track], plots: &[PlanePlot]) -> Result<bool
     if plots.len() > u32::MAX as usize {
         return Err(NoMemory);
     }
-    let costs = batch_costs(alloc, tracks, plots)?;
+    let mut aims = Vec::new(alloc);
+    let costs = batch_costs(alloc, tracks, plots, &mut aims)?;
     Ok(costs.edges.len() > 0)
 }
 

@@ -1,6 +1,7 @@
 pub mod Detected
 pub mod Expiry
 pub mod Told
+pub mod Mixed
 pub mod Numbering
 pub mod Leaps
 pub mod FirstFree

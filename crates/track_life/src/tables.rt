@@ -1,6 +1,6 @@
 // Tables of tracks, expiry, and their numbers.
 ghost use Rattle.std.specs.Prelude.{◌≡◌, IfOk, OnErr, OnOk};
-ghost use Rattle.track_life.specs.Tables.{keep, is_kept, unexpired};
+ghost use Rattle.track_life.specs.Tables.{unexpired};
 ghost use Rattle.track_life.specs.Numbers.{assigned};
 
 use crate::numbers::give_numbers;
@@ -86,7 +86,7 @@ pub fn expire(
 {
     let mut kept = Vec::with_capacity(alloc, table.tracks.len())?;
     for track in &table.tracks {
-        if is_kept(track, slot, life) {
+        if track.is_kept(slot, life) {
             kept.push(*track)?;
         }
     }
@@ -103,23 +103,4 @@ pub fn assign_numbers(alloc: Global, table: &mut Table) -> Result<(), NoMemory>
     ensures unchanged { OnErr result (table.new ≡ table.old) }
 {
     give_numbers(alloc, &mut table.tracks)
-}
-
-// Whether a track hasn't expired at the start of a slot.
-fn is_kept(track: &Track, slot: u64, life: &LifeSettings) -> bool
-    ensures { result ≡ is_kept life.now slot track.now }
-{
-    64 * u128::from(slot)
-        <= u128::from(track.aim.time) + 128 * u128::from(keep(track.confirmed, life))
-}
-
-// For how many seconds a track is kept without a plot.
-fn keep(confirmed: bool, life: &LifeSettings) -> u8
-    ensures { result ≡ keep life.now confirmed }
-{
-    if confirmed {
-        life.keep_confirmed
-    } else {
-        life.keep_tentative
-    }
 }

@@ -1,6 +1,6 @@
 // Tracks, and how plots make and continue them.
 use crate::LifeSettings;
-use fixed_imm::{Aim, Axis, time_step};
+use fixed_imm::{Aim, Axis, MixedAim, time_step};
 use plot_geometry::PlanePlot;
 use std::marker::Model;
 use trk_base::Key;
@@ -48,8 +48,10 @@ impl Model for Track {
 
 impl Track {
     ghost use Rattle.std.specs.Prelude.{◌≡◌};
+    ghost use Rattle.fixed_imm.specs.Aims.{mixed_aim};
     ghost use Rattle.fixed_imm.specs.Bounds.{IsTimeStep, time_step};
     ghost use Rattle.track_life.specs.Tracks.{begun, continued};
+    ghost use Rattle.track_life.specs.Tables.{is_kept};
 
     /// The track of a first plot: tentative, unless one plot confirms, and without a number.
     #[tactic(auto, using(crate::proofs::Detected::detected), unfolding(crate::specs::Tracks::begun))]
@@ -75,16 +77,26 @@ impl Track {
 
     /// The track after a plot that belongs to it, from half a second before its time to 60.5 s
     /// after it. It is confirmed with as many plots as the settings ask, and stays so.
-    #[tactic(auto, using(crate::proofs::Detected::detected), unfolding(crate::specs::Tracks::continued))]
     pub fn update(&self, plot: &PlanePlot, life: &LifeSettings) -> Track
         requires { IsTimeStep (time_step self.now.aim.time plot.now.key.time) }
+        ensures { result ≡ continued life.now.hits self.now plot.now }
+    {
+        self.update_mixed(&self.aim.mixed(), plot, life)
+    }
+
+    /// The same track, by its aim that was mixed before: who has gated the track mixed it for that,
+    /// and needn't mix it again.
+    #[tactic(auto, using(crate::proofs::Detected::detected), unfolding(crate::specs::Tracks::continued))]
+    pub fn update_mixed(&self, mixed: &MixedAim, plot: &PlanePlot, life: &LifeSettings) -> Track
+        requires mixed { mixed.now ≡ mixed_aim self.now.aim }
+        requires step { IsTimeStep (time_step self.now.aim.time plot.now.key.time) }
         ensures { result ≡ continued life.now.hits self.now plot.now }
     {
         let time = plot.key.time;
         let plots = self.plots.saturating_add(1);
         Track {
             birth: self.birth,
-            aim: next_aim(&self.aim, plot),
+            aim: next_aim(mixed, plot),
             level: plot.level.or(self.level),
             psr: last_seen(is_primary(plot.kind), time, self.psr),
             ssr: last_seen(is_secondary(plot.kind), time, self.ssr),
@@ -97,11 +109,22 @@ impl Track {
             number: self.number,
         }
     }
+
+    /// Whether it hasn't expired at the start of a slot: its last plot isn't more seconds before it
+    /// than the settings keep a confirmed track, or a tentative one.
+    pub fn is_kept(&self, slot: u64, life: &LifeSettings) -> bool
+        ensures { result ≡ is_kept life.now slot self.now }
+    {
+        64 * u128::from(slot)
+            <= u128::from(self.aim.time) + 128 * u128::from(keep(self.confirmed, life))
+    }
 }
 
 ghost use Rattle.std.specs.Prelude.{◌≡◌};
+ghost use Rattle.fixed_imm.specs.Aims.{AimState, mixed_aim};
 ghost use Rattle.fixed_imm.specs.Bounds.{IsTimeStep, time_step};
 ghost use Rattle.track_life.specs.Tracks.{is_primary, is_secondary, is_mode_s, last_seen, first_aim, aim_after};
+ghost use Rattle.track_life.specs.Tables.{keep};
 
 // Where a track is after its first plot.
 fn first_aim(plot: &PlanePlot) -> Aim
@@ -116,18 +139,18 @@ fn first_aim(plot: &PlanePlot) -> Aim
     }
 }
 
-// Where it is after a further plot.
-fn next_aim(aim: &Aim, plot: &PlanePlot) -> Aim
-    requires { IsTimeStep (time_step aim.now.time plot.now.key.time) }
-    ensures { result ≡ aim_after aim.now plot.now }
+// Where it is after a further plot, of the aim that was mixed.
+fn next_aim(mixed: &MixedAim, plot: &PlanePlot) -> Aim
+    requires { IsTimeStep (time_step mixed.now.time plot.now.key.time) }
+    ensures { (a : AimState) → mixed.now ≡ mixed_aim a → result ≡ aim_after a plot.now }
 {
-    let d = time_step(aim.time, plot.key.time);
+    let d = time_step(mixed.time, plot.key.time);
     Aim {
-        x: aim.x.update(d, plot.x, plot.rx),
-        y: aim.y.update(d, plot.y, plot.ry),
+        x: mixed.x.update(d, plot.x, plot.rx),
+        y: mixed.y.update(d, plot.y, plot.ry),
         time: plot.key.time,
-        address: plot.address.or(aim.address),
-        code: plot.code.or(aim.code),
+        address: plot.address.or(mixed.address),
+        code: plot.code.or(mixed.code),
     }
 }
 
@@ -157,4 +180,15 @@ fn last_seen(now: bool, time: u64, before: Option<u64>) -> Option<u64>
     ensures { result ≡ last_seen now time before }
 {
     if now { Some(time) } else { before }
+}
+
+// For how many seconds a track is kept without a plot.
+fn keep(confirmed: bool, life: &LifeSettings) -> u8
+    ensures { result ≡ keep life.now confirmed }
+{
+    if confirmed {
+        life.keep_confirmed
+    } else {
+        life.keep_tentative
+    }
 }

@@ -1,9 +1,14 @@
-use Rattle.std.proofs.Common.{◌∙◌, ap, List}
+use Rattle.std.proofs.Common.{◌∙◌, ap, List, sym, subst}
 use Rattle.track_life.specs.Tracks.{TrackState}
 use Rattle.slot_step.specs.Batches.{least}
+use Rattle.slot_step.specs.MixedAims.{AreMixed}
 use Rattle.slot_step.specs.Tracker.{tracking}
+use Rattle.slot_step.proofs.Mixing.{none_mixed}
 use Rattle.slot_step.proofs.Moves.{least_inside, least_once, least_count, moved_is}
 use Rattle.slot_step.proofs.batch_step.step_batch.Goals as goal
+
+pub batch_costs-requires-clause-aims : goal.batch_costs-requires-clause-aims
+batch_costs-requires-clause-aims c = subst (AreMixed c.deref.result.now) (sym c.new-aims.ensures.items) (none_mixed c.deref.result.now)
 
 pub move_tracks-requires-clause-count : goal.move_tracks-requires-clause-count
 move_tracks-requires-clause-count c =

@@ -1,12 +1,15 @@
 use Rattle.std.proofs.Common.{◌≡◌, ◌∙◌, ◌+◌, ◌++◌, ◌∷◌, [], ap, sym, subst, ℕ, ℤ, pos, List, get_or, take, Vec, Global}
 use Rattle.std.proofs.lemmas.List.{take_more}
 use Rattle.assignment_dual.specs.Problems.{Edge}
+use Rattle.fixed_imm.specs.Aims.{AimState}
 use Rattle.gating.specs.Gating.{gate}
 use Rattle.plot_geometry.specs.Plots.{PlanePlot}
 use Rattle.slot_step.specs.Certificates.{IsAt}
 use Rattle.slot_step.specs.Gates.{AreAdded}
+use Rattle.slot_step.specs.MixedAims.{IsMixedOf, AreMixed}
 use Rattle.slot_step.proofs.Components.{get_at}
 use Rattle.slot_step.proofs.Edges.{one_added, none_added}
+use Rattle.slot_step.proofs.Mixing.{more_mixed}
 use Rattle.slot_step.proofs.gates.add_gates.Goals as goal
 use Rattle.slot_step.proofs.gates.add_gates.Goals.{in-Some+in_ok-push, in_default}
 
@@ -33,3 +36,9 @@ loop-place-preserved c =
           subst (λ (y : List (ℤ × ℕ) × List Edge). AreAdded (gate a) ps y.0 j es y.1) (λ m. (more m, sym (ap (λ (v : Vec Edge Global). v.items) w.edges-is) m))
           (none_added (gate a) ps j (take k near) e p es fs at (sym gate_is ∙ w.in_default.is) c.loop-place.invariant)
     ]
+
+pub returns-clause-aims : goal.returns-clause-aims
+returns-clause-aims c ts is h =
+    let j = c.args.index in
+    subst (AreMixed ts) (sym c.in_ok-push-2.ensures.items)
+    (more_mixed ts c.args.aims.now.items (j, c.mixed-mixed.result) (subst (λ (a : AimState). IsMixedOf ts (j, a)) (sym c.mixed-mixed.ensures) is) h)

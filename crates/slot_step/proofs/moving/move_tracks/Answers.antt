@@ -3,7 +3,9 @@ use Rattle.std.specs.Prelude.{All, IfSome}
 use Rattle.fixed_imm.specs.Bounds.{IsTimeStep, time_step}
 use Rattle.plot_geometry.specs.Plots.{PlanePlot}
 use Rattle.track_life.specs.Tracks.{TrackState, continued}
+use Rattle.slot_step.specs.Certificates.{IsAt}
 use Rattle.slot_step.specs.Tracker.{tracking}
+use Rattle.slot_step.proofs.Components.{get_at}
 use Rattle.slot_step.proofs.Moves.{moved_none, moved_begun, moved_paired, not_moved, moved_longer}
 use Rattle.slot_step.proofs.moving.move_tracks.Goals as goal
 use Rattle.slot_step.proofs.moving.move_tracks.Goals.{in-Some, in-None+in_ok-push-in-None}
@@ -23,8 +25,19 @@ index-before-requires c =
     let own : t < length ts = inside (length ts) i t c.args.pairing.now c.requires.inside (omega (arith, c.loop-index-test.true, c.requires.count)) c.in-Some.is in
     omega (arith, ap length c.loop-index.invariant, moved_longer (tracking c.args.life.now) ts (take i c.args.plots.now) (take i c.args.pairing.now) t own)
 
-pub update-requires : goal.update-requires
-update-requires c =
+pub update_track-requires-clause-mixed : goal.update_track-requires-clause-mixed
+update_track-requires-clause-mixed c =
+    let ts = c.args.tracks.now.items in
+    let i = c.loop-index.index in
+    let t : ℕ = c.in-Some.track in
+    let d = c.index-before.result.now in
+    let lt : i < length c.args.pairing.now = omega (arith, c.loop-index-test.true, c.requires.count) in
+    let own : t < length ts = inside (length ts) i t c.args.pairing.now c.requires.inside lt c.in-Some.is in
+    let is : d ≡ get_or ts t d = c.index-before.ensures ∙ ap (λ (us : List TrackState). get_or us t d) c.loop-index.invariant ∙ not_moved (tracking c.args.life.now) ts d c.args.plots.now c.args.pairing.now i t lt c.requires.once own c.in-Some.is in
+    c.aim_of.ensures ts d c.requires.aims (subst (IsAt ts t) (sym is) (get_at d ts t own))
+
+pub update_track-requires-clause-step : goal.update_track-requires-clause-step
+update_track-requires-clause-step c =
     let ts = c.args.tracks.now.items in
     let ps = c.args.plots.now in
     let i = c.loop-index.index in
@@ -60,7 +73,7 @@ loop-index-preserved c =
           let own : t < length ts = inside (length ts) i t xs c.requires.inside lt w.in-Some.is in
           let is : d ≡ get_or ts t d = w.index-before.ensures ∙ ap (λ (us : List TrackState). get_or us t d) c.loop-index.invariant ∙ not_moved k ts d ps xs i t lt c.requires.once own w.in-Some.is in
           ap (λ (v : Vec TrackState Global). v.items) w.tracks-is
-          ∙ (λ j. slice_set (c.loop-index.invariant j) t ((w.update.ensures ∙ (λ l. continued c.args.life.now.hits (is l) (c.index-plots-index.is l))) j))
+          ∙ (λ j. slice_set (c.loop-index.invariant j) t ((w.update_track.ensures ∙ (λ l. continued c.args.life.now.hits (is l) (c.index-plots-index.is l))) j))
           ∙ sym (moved_paired k ts d p ps xs i t c.loop-index-test.true c.requires.count c.requires.once own w.in-Some.is)
       | in-None+in_ok-push-in-None w ↦
           ap (λ (v : Vec TrackState Global). v.items) w.tracks-is ∙ w.in_ok-push-in-None.ensures.items

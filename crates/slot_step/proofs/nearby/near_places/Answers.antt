@@ -1,4 +1,4 @@
-use Rattle.std.proofs.Common.{rules, ◌≤◌, ap, subst, refl, ℕ, ℤ, pos}
+use Rattle.std.proofs.Common.{rules, ◌≤◌, ap, subst, refl, ℕ, pos}
 use Rattle.std.specs.Prelude.{unsigned_abs, ◌≤ℤ◌}
 use Rattle.fixed_imm.specs.Aims.{AimState}
 use Rattle.fixed_imm.specs.Bounds.{time_step}
