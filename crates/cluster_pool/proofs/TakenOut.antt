@@ -8,7 +8,7 @@ use Rattle.span_clusters.specs.Interleavings.{KeysDiffer, EachPair}
 use Rattle.span_clusters.specs.Parts.{Part, Cross, Without, joined}
 use Rattle.span_clusters.specs.Jobs.{NumbersDiffer, AreBeforeBoth, AreParts, CrossWith, CrossAs, part_numbers}
 use Rattle.span_clusters.proofs.Interleavings.{contains_first, contains_later, contains_cons}
-use Rattle.cluster_pool.specs.Joins.{AreTaken, AreNumbers}
+use Rattle.cluster_pool.specs.Joins.{LackNumber, HaveNumbers, AreTaken, AreNumbers}
 
 pub empty_lacks : {X : Type 0} (xs : List X) (x : X) → length xs ≡ 0 → Contains xs x → ⊥
 empty_lacks [] x e c = omega (arith, c.1)
@@ -102,8 +102,33 @@ module _ {S I : Type 0} where
       let two = pairs_without (λ p q. p.number ≢ q.number) numbers_back q t.others rest t.other one.1 in
       (lower_differs p.number q.number rest (all_without (λ r. p.number ≢ r.number) q t.others rest t.other one.0).1 two.0, two.1)
 
+  -- a part that is taken out had a number of the parts, ..
+  own_number : (p : Part S I) (parts rest : List (Part S I)) → Without p parts rest → Contains (part_numbers parts) p.number
+  own_number p [] rest w = absurd w
+  own_number p (q ∷ parts) rest (inl (e, f)) = contains_first q.number p.number (part_numbers parts) (ap (λ (r : Part S I). r.number) (sym e))
+  own_number p (q ∷ parts) rest (inr (others, f, v)) = contains_later q.number p.number (part_numbers parts) (own_number p parts others v)
+
+  -- .. and those that are left have numbers of them
+  number_without : (p : Part S I) (parts rest : List (Part S I)) → Without p parts rest → (k : ℕ) → Contains (part_numbers rest) k → Contains (part_numbers parts) k
+  number_without p [] rest w k c = absurd w
+  number_without p (q ∷ parts) rest (inl (e, f)) k c = contains_later q.number k (part_numbers parts) (subst (λ (l : List (Part S I)). Contains (part_numbers l) k) f c)
+  number_without p (q ∷ parts) rest (inr (others, f, v)) k c = elim (contains_cons q.number k (part_numbers others) (subst (λ (l : List (Part S I)). Contains (part_numbers l) k) f c)) [
+    | inl e ↦ contains_first q.number k (part_numbers parts) e
+    | inr d ↦ contains_later q.number k (part_numbers parts) (number_without p parts others v k d)
+  ]
+
+  -- no number comes in by a join
+  pub joined_among : (merged : S → S → S) (p q : Part S I) (parts rest : List (Part S I)) (items : List I) → AreTaken p q parts rest → (k : ℕ) → Contains (part_numbers (joined merged p q items ∷ rest)) k → Contains (part_numbers parts) k
+  joined_among merged p q parts rest items t k c = elim (contains_cons (min p.number q.number) k (part_numbers rest) c) [
+    | inl e ↦ elim (cases_lt p.number q.number) [
+      | inl lt ↦ (let low : p.number ≡ k = omega (arith, lt, e) in subst (Contains (part_numbers parts)) low (own_number p parts t.others t.one))
+      | inr le ↦ (let low : q.number ≡ k = omega (arith, le, e) in subst (Contains (part_numbers parts)) low (number_without p parts t.others t.one q.number (own_number q t.others rest t.other)))
+    ]
+    | inr d ↦ number_without p parts t.others t.one k (number_without q t.others rest t.other k d)
+  ]
+
   -- a number that no part has
-  pub no_number : (a : ℕ) (parts : List (Part S I)) → AllByRecursion (λ p. p.number ≢ a) parts → Contains (part_numbers parts) a → ⊥
+  pub no_number : (a : ℕ) (parts : List (Part S I)) → LackNumber a parts → Contains (part_numbers parts) a → ⊥
   no_number a [] h c = absurd (omega (arith, c.1))
   no_number a (p ∷ parts) h c = elim (contains_cons p.number a (part_numbers parts) c) [ inl e ↦ h.0 e | inr d ↦ no_number a parts h.1 d ]
 
@@ -162,13 +187,32 @@ module _ {S I : Type 0} where
   two_places [] i j a b n l m h k = absurd (omega (arith, l))
   two_places (p ∷ parts) i j a b n l m h k = same_place (p ∷ parts) i j a b p n h k
 
+  earlier_stays : (parts : List (Part S I)) (high low : ℕ) (d : Part S I) → low < high → high < length parts → get_or (take high parts ++ drop (suc high) parts) low d ≡ get_or parts low d
+  earlier_stays [] high low d l m = absurd (omega (arith, m))
+  earlier_stays (p ∷ parts) zero low d l m = absurd (omega (arith, l))
+  earlier_stays (p ∷ parts) (suc high) zero d l m = refl
+  earlier_stays (p ∷ parts) (suc high) (suc low) d l m = earlier_stays parts high low d (omega (arith, l)) (omega (arith, m))
+
+  number_at : (parts : List (Part S I)) (place i a : ℕ) (p : Part S I) → place ≡ i → p ≡ get_or parts place p → ((d : Part S I) → (get_or parts i d).number ≡ a) → p.number ≡ a
+  number_at parts place i a p s e h = ap (λ (r : Part S I). r.number) e ∙ ap (λ k. (get_or parts k p).number) s ∙ h p
+
+  places_numbers : (parts : List (Part S I)) (i j high low a b : ℕ) (p q : Part S I) → ((d : Part S I) → (get_or parts i d).number ≡ a) → ((d : Part S I) → (get_or parts j d).number ≡ b)
+      → high ≡ max i j → low ≡ min i j → p ≡ get_or parts high p → q ≡ get_or parts low q → HaveNumbers a b p q
+  places_numbers parts i j high low a b p q one other h l e f = elim (cases_lt i j) [
+    | inl lt ↦ inr (number_at parts high j b p (omega (arith, lt, h)) e other, number_at parts low i a q (omega (arith, lt, l)) f one)
+    | inr le ↦ inl (number_at parts high i a p (omega (arith, le, h)) e one, number_at parts low j b q (omega (arith, le, l)) f other)
+  ]
+
   pub places_taken : (parts mid rest : List (Part S I)) (i j high low a b : ℕ) (p q : Part S I) → a ≢ b
       → (i < length parts) × ((d : Part S I) → (get_or parts i d).number ≡ a) → (j < length parts) × ((d : Part S I) → (get_or parts j d).number ≡ b)
-      → high ≡ max i j → low ≡ min i j → p ≡ get_or parts high p → mid ≡ take high parts ++ drop (suc high) parts → q ≡ get_or mid low q → rest ≡ take low mid ++ drop (suc low) mid → AreTaken p q parts rest
+      → high ≡ max i j → low ≡ min i j → p ≡ get_or parts high p → mid ≡ take high parts ++ drop (suc high) parts → q ≡ get_or mid low q → rest ≡ take low mid ++ drop (suc low) mid → AreTaken p q parts rest × HaveNumbers a b p q
   places_taken parts mid rest i j high low a b p q n one other h l e f g k =
       let apart : i ≢ j = two_places parts i j a b n one.0 other.0 one.1 other.1 in
       let below : low < high = elim (cases_lt i j) [ inl lt ↦ omega (arith, lt, h, l) | inr le ↦ elim (cases_lt j i) [ inl lt ↦ omega (arith, lt, h, l) | inr ge ↦ absurd (apart (omega (arith, le, ge))) ] ] in
       let inside : high < length parts = let x = one.0 in let y = other.0 in omega (arith, h, x, y) in
       let q' : q ≡ get_or (take high parts ++ drop (suc high) parts) low q = g ∙ ap (λ (m : List (Part S I)). get_or m low q) f in
       let r' : rest ≡ take low (take high parts ++ drop (suc high) parts) ++ drop (suc low) (take high parts ++ drop (suc high) parts) = k ∙ ap (λ (m : List (Part S I)). take low m ++ drop (suc low) m) f in
-      subst (AreTaken p q parts) (sym r') (both_taken parts high low p q below inside e q')
+      let q'' : q ≡ get_or parts low q = q' ∙ earlier_stays parts high low q below inside in (
+        subst (AreTaken p q parts) (sym r') (both_taken parts high low p q below inside e q'),
+        places_numbers parts i j high low a b p q one.1 other.1 h l e q'',
+      )

@@ -1,20 +1,19 @@
 -- What joins keep of the parts of a whole, and what they cost.
-use Rattle.std.proofs.Common.{◌≡◌, ◌≢◌, ap, sym, refl, subst, ℕ, ◌+◌, ◌*◌, ◌<◌, ◌≤◌, List, [], ◌∷◌, ◌++◌, length, arith, inl, inr}
+use Rattle.std.proofs.Common.{◌≡◌, ap, sym, refl, subst, ℕ, ◌+◌, ◌*◌, ◌<◌, ◌≤◌, List, [], ◌∷◌, ◌++◌, length, arith, inl, inr}
 use Rattle.std.specs.Cmp.{IsTotalOrder}
-use Rattle.std.specs.Prelude.{◌⊎◌, Option, Some, None, MatchOption}
+use Rattle.std.specs.Prelude.{◌⊎◌, Contains, Option, Some, None, MatchOption}
 use Rattle.std.specs.Option.{option_to_list}
-use Rattle.std.specs.List.{AllByRecursion}
 use Rattle.std.specs.declared.cmp.Ordering.{Ordering}
 use Rattle.std.proofs.Math.Nat.{mul-le-mul_left}
 use Rattle.late_window.specs.Folding.{Rises, slots}
 use Rattle.span_clusters.specs.Parts.{Part, IsSplitting}
-use Rattle.span_clusters.specs.Jobs.{NumbersDiffer, AreParts, filled_slots}
+use Rattle.span_clusters.specs.Jobs.{NumbersDiffer, AreParts, filled_slots, part_numbers}
 use Rattle.span_clusters.proofs.FewSlots.{few_of_each, few_together}
 use Rattle.span_clusters.proofs.Joins.{joined_splitting}
 use Rattle.span_clusters.proofs.Separated.{separated}
 use Rattle.span_clusters.proofs.Separating.{Separating, SeparatingLaws}
-use Rattle.cluster_pool.specs.Joins.{AreTaken, AreNumbers, AreOne, ComesFrom}
-use Rattle.cluster_pool.proofs.TakenOut.{without_behind, without_length, joined_differ, no_number, two_taken}
+use Rattle.cluster_pool.specs.Joins.{LackNumber, HaveNumbers, AreTaken, AreNumbers, AreOne, ComesFrom}
+use Rattle.cluster_pool.proofs.TakenOut.{without_behind, without_length, joined_differ, joined_among, no_number, two_taken}
 
 module _ {S I K O : Type 0} (F : Separating S I K O) (L : SeparatingLaws F)
     (merged_rest : (s t r : S) → F.is_beside s t → F.is_beside s r → F.is_beside t r → F.merged (F.merged s t) r ≡ F.merged s (F.merged t r)) where
@@ -25,7 +24,7 @@ module _ {S I K O : Type 0} (F : Separating S I K O) (L : SeparatingLaws F)
   Comes old new before now = ComesFrom F.slot F.cmp F.key F.is_before F.is_beside F.merged old new before now
 
   pub none_joined : (parts : List (Part S I)) (n : ℕ) → Comes parts parts n n
-  none_joined parts n = record { numbers = λ d. d; splitting = λ s zs up i. i; rises = omega arith; paid = λ s zs up i. omega arith }
+  none_joined parts n = record { numbers = λ d. d; among = λ k c. c; splitting = λ s zs up i. i; rises = omega arith; paid = λ s zs up i. omega arith }
 
   taken_behind : (p q : Part S I) (jobs parts rest : List (Part S I)) → AreTaken p q parts rest → AreTaken p q (jobs ++ parts) (jobs ++ rest)
   taken_behind p q jobs parts rest t = record { others = jobs ++ t.others; one = without_behind p jobs parts t.others t.one; other = without_behind q jobs t.others rest t.other }
@@ -45,6 +44,7 @@ module _ {S I K O : Type 0} (F : Separating S I K O) (L : SeparatingLaws F)
       (joined_splitting F L merged_rest total s zs p q (jobs ++ parts) u.others (jobs ++ rest) made.items up (c.splitting s zs up i) u.one u.other o.both o.rising).0 in
       record {
         numbers = λ d. subst (λ m. NumbersDiffer (m ∷ jobs ++ rest)) (sym o.is) (joined_differ F.merged p q (jobs ++ parts) (jobs ++ rest) made.items u (c.numbers d));
+        among = λ k h. c.among k (joined_among F.merged p q (jobs ++ parts) (jobs ++ rest) made.items u k (subst (λ m. Contains (part_numbers (m ∷ jobs ++ rest)) k) o.is h));
         splitting = split;
         rises = let r = c.rises in omega (arith, r, e);
         paid = λ s zs up i.
@@ -83,15 +83,15 @@ module _ {S I K O : Type 0} (F : Separating S I K O) (L : SeparatingLaws F)
   joins_first old n a = record { comes = none_joined F L merged_rest old n; left = a; count = omega arith; begun = inl (refl, refl) }
 
   -- the first pair is there
-  pub joins_not : (old jobs parts : List (Part S I)) (at a b before now : ℕ) → Joins old at jobs parts before now → AreNumbers a b old → AllByRecursion (λ p. p.number ≢ a) parts ⊎ AllByRecursion (λ p. p.number ≢ b) parts → Joins old (at + 1) jobs parts before now
+  pub joins_not : (old jobs parts : List (Part S I)) (at a b before now : ℕ) → Joins old at jobs parts before now → AreNumbers a b old → LackNumber a parts ⊎ LackNumber b parts → Joins old (at + 1) jobs parts before now
   joins_not old jobs parts at a b before now j n lacks = record {
     comes = j.comes;
     left = j.left;
     count = j.count;
     begun = elim j.begun [
       | inl h ↦ absurd (elim lacks [
-        | inl k ↦ no_number a old (subst (AllByRecursion (λ p. p.number ≢ a)) h.1 k) n.one
-        | inr k ↦ no_number b old (subst (AllByRecursion (λ p. p.number ≢ b)) h.1 k) n.other
+        | inl k ↦ no_number a old (subst (LackNumber a) h.1 k) n.one
+        | inr k ↦ no_number b old (subst (LackNumber b) h.1 k) n.other
       ])
       | inr l ↦ inr l
     ];
@@ -122,8 +122,8 @@ module _ {S I K O : Type 0} (F : Separating S I K O) (L : SeparatingLaws F)
 
   -- what joining a pair gives, and what is kept then
   abbrev pub PairJoined : (parts rest : List (Part S I)) → ℕ → ℕ → ℕ → ℕ → Option (Part S I) → Type 0
-  PairJoined parts rest a b now then job = MatchOption job ((rest ≡ parts) × (then ≡ now) × (AllByRecursion (λ p. p.number ≢ a) parts ⊎ AllByRecursion (λ p. p.number ≢ b) parts))
-      (λ made. (p q : Part S I) × AreTaken p q parts rest × AreOne F.cmp F.key F.merged p q made × (then ≡ now + length (slots F.slot made.items)))
+  PairJoined parts rest a b now then job = MatchOption job ((rest ≡ parts) × (then ≡ now) × (LackNumber a parts ⊎ LackNumber b parts))
+      (λ made. (p q : Part S I) × AreTaken p q parts rest × AreOne F.cmp F.key F.merged p q made × (then ≡ now + length (slots F.slot made.items)) × HaveNumbers a b p q)
 
   pub joins_step : IsTotalOrder F.cmp → (old jobs parts rest : List (Part S I)) (at a b before now then : ℕ) (job : Option (Part S I)) → Joins old at jobs parts before now → AreNumbers a b old → PairJoined parts rest a b now then job
       → Joins old (at + 1) (option_to_list job ++ jobs) rest before then

@@ -1,11 +1,10 @@
 // Parts that cross, joined two at a time.
-ghost use Rattle.std.specs.Prelude.{◌≡◌, ◌≢◌, ◌⊎◌, ◌<◌, ◌≤◌, ◌+◌, ◌*◌, ℕ, List, [], ◌∷◌, ◌++◌, length, slice_index_or, Contains, MatchOption, IfOk, OnOk, OnErr};
+ghost use Rattle.std.specs.Prelude.{◌≡◌, ◌≢◌, ◌⊎◌, ◌<◌, ◌≤◌, ◌+◌, ◌*◌, ℕ, List, ◌++◌, length, slice_index_or, Contains, MatchOption, IfOk, OnOk, OnErr};
 ghost use Rattle.std.specs.Option.{option_to_list};
-ghost use Rattle.std.specs.List.{AllByRecursion};
 ghost use Rattle.late_window.specs.Folding.{Rises, slots};
 ghost use Rattle.span_clusters.specs.Parts.{Part, IsSplitting};
 ghost use Rattle.span_clusters.specs.Jobs.{AreParts};
-ghost use Rattle.cluster_pool.specs.Joins.{AreTaken, AreNumbers, AreOne, ComesFrom};
+ghost use Rattle.cluster_pool.specs.Joins.{LackNumber, HaveNumbers, AreTaken, AreNumbers, AreOne, ComesFrom};
 
 use crate::Pool;
 use late_window::Fold;
@@ -16,7 +15,7 @@ use trk_base::{NoMemory, Steps};
 
 // The place of the part with the number.
 fn place_of<F: Fold>(done: &[Done<F>], number: u8) -> Option<usize>
-    ensures { MatchOption result (AllByRecursion (λ p. p.number ≢ number) done.now) (λ i. (i < length done.now) × ((d : _) → (slice_index_or done.now i d).number ≡ number)) }
+    ensures { MatchOption result (LackNumber number done.now) (λ i. (i < length done.now) × ((d : _) → (slice_index_or done.now i d).number ≡ number)) }
 {
     for place in 0..done.len() {
         if done[place].number() == number {
@@ -29,7 +28,7 @@ fn place_of<F: Fold>(done: &[Done<F>], number: u8) -> Option<usize>
 // Takes the parts of two numbers out, where both are there.
 fn take_both<F: Fold>(done: &mut Vec<Done<F>>, pair: (u8, u8)) -> Option<(Done<F>, Done<F>)>
     requires { pair.0 ≢ pair.1 }
-    ensures { MatchOption result ((done.new.items ≡ done.old.items) × (AllByRecursion (λ p. p.number ≢ pair.0) done.old.items ⊎ AllByRecursion (λ p. p.number ≢ pair.1) done.old.items)) (λ both. AreTaken both.0 both.1 done.old.items done.new.items) }
+    ensures { MatchOption result ((done.new.items ≡ done.old.items) × (LackNumber pair.0 done.old.items ⊎ LackNumber pair.1 done.old.items)) (λ both. AreTaken both.0 both.1 done.old.items done.new.items × HaveNumbers pair.0 pair.1 both.0 both.1) }
 {
     let first = place_of(done, pair.0)?;
     let second = place_of(done, pair.1)?;
@@ -47,8 +46,8 @@ fn join_pair<F: Separable, L: Ledger>(
 ) -> Result<Option<Job<F>>, NoMemory>
     requires differ { pair.0 ≢ pair.1 }
     requires parts { AreParts F.slot_of F.key_of F.is_before F.is_beside done.old.items }
-    ensures none { IfOk result (λ job. MatchOption job ((done.new.items ≡ done.old.items) × (steps.new ≡ steps.old) × (AllByRecursion (λ p. p.number ≢ pair.0) done.old.items ⊎ AllByRecursion (λ p. p.number ≢ pair.1) done.old.items))
-        (λ made. (p q : Part F.State F.Item) × AreTaken p q done.old.items done.new.items × AreOne F.Item.cmp F.key_of F.merged p q made × (steps.new ≡ steps.old + length (slots F.slot_of made.items)))) }
+    ensures none { IfOk result (λ job. MatchOption job ((done.new.items ≡ done.old.items) × (steps.new ≡ steps.old) × (LackNumber pair.0 done.old.items ⊎ LackNumber pair.1 done.old.items))
+        (λ made. (p q : Part F.State F.Item) × AreTaken p q done.old.items done.new.items × AreOne F.Item.cmp F.key_of F.merged p q made × (steps.new ≡ steps.old + length (slots F.slot_of made.items)) × HaveNumbers pair.0 pair.1 p q)) }
     ensures err { OnErr result (steps.new ≡ steps.old) }
 {
     match take_both(done, pair) {

@@ -43,6 +43,7 @@ pub trait Pool {
 /// Runs the jobs one after the other.
 #[derive(Drop)]
 pub struct Inline<R> {
+    /// Stands for what threads would be started by: nothing is kept, as none is started.
     handle: PhantomData<R>,
 }
 
@@ -65,12 +66,13 @@ impl<R: Threads + Sync> Pool for Inline<R> {
 /// Runs each job in a thread of its own, where one can be started.
 #[derive(Drop)]
 pub struct MapPool<R> {
-    rt: R,
+    /// By what the threads are started.
+    handle: R,
 }
 
 impl<R: Threads + Sync> MapPool<R> {
-    pub fn new(rt: R) -> MapPool<R> {
-        MapPool { rt }
+    pub fn new(handle: R) -> MapPool<R> {
+        MapPool { handle }
     }
 }
 
@@ -78,6 +80,6 @@ impl<R: Threads + Sync> Pool for MapPool<R> {
     type Handle = R;
 
     fn handle(&self) -> Option<&R> {
-        Some(&self.rt)
+        Some(&self.handle)
     }
 }

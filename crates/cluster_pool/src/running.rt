@@ -21,7 +21,7 @@ where
     ensures { IfOk result (λ results. AreResultsOf jobs.items results.items) }
 {
     match handle {
-        Some(rt) => match in_threads(rt, alloc, jobs) {
+        Some(handle) => match in_threads(handle, alloc, jobs) {
             Ok(results) => Ok(results),
             Err(_) => Err(NoMemory),
         },
@@ -30,7 +30,7 @@ where
 }
 
 fn in_threads<F: Separable + Send, R: Threads + Sync>(
-    rt: &R,
+    handle: &R,
     alloc: Global,
     jobs: Vec<Job<F>>,
 ) -> Result<Vec<Result<Done<F>, NoMemory>>, AllocError>
@@ -41,7 +41,7 @@ where
     ensures len { IfOk result (λ results. length results.items ≡ length jobs.items) }
     ensures each { IfOk result (λ results. (i : ℕ) (d : _) (e : _) → i < length jobs.items → IfOk (slice_index_or results.items i e) (λ done. done ≡ slice_index_or jobs.items i d)) }
 {
-    thread::map_vec(rt, jobs, &|job: Job<F>| job.run(alloc))
+    thread::map_vec(handle, jobs, &|job: Job<F>| job.run(alloc))
 }
 
 fn in_order<F: Separable>(

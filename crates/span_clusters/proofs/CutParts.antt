@@ -1,13 +1,15 @@
 -- The parts of the numbers that were given.
-use Rattle.std.proofs.Common.{◌≡◌, ◌≢◌, ◌∙◌, ap, sym, refl, ℕ, zero, suc, ◌+◌, ◌≤◌, List, [], ◌∷◌, length, map, take, drop, Vec, Global, Bool, true, false, arith, subst, subst₂}
-use Rattle.std.specs.Prelude.{Contains, IfOk, Result, Ok, Err, ◌&&◌, ◌||◌}
+use Rattle.std.proofs.Common.{◌≡◌, ◌≢◌, ◌∙◌, ap, sym, refl, ℕ, zero, suc, ◌≤◌, List, [], ◌∷◌, length, map, take, drop, Vec, Global, Bool, true, false, arith, subst, subst₂, inl, inr}
+use Rattle.std.specs.Prelude.{Contains, IfOk, Result, Ok, Err, ◌&&◌, ◌||◌, ◌⊎◌}
 use Rattle.std.specs.List.{AllByRecursion}
 use Rattle.late_window.specs.Folding.{BeforeFirst}
 use Rattle.late_window.proofs.Groups.{SlotsRise, drop_all}
 use Rattle.span_clusters.specs.Interleavings.{EachPair}
 use Rattle.span_clusters.specs.Parts.{Part, IsSplitting, numbered}
-use Rattle.span_clusters.specs.Jobs.{NumbersDiffer, AreUsed, IsPartition, part_numbers}
+use Rattle.span_clusters.specs.Jobs.{NumbersDiffer, AreUsed, IsUsed, IsPartition, part_numbers}
+use Rattle.span_clusters.proofs.Interleavings.{contains_first, contains_later, contains_cons}
 use Rattle.span_clusters.proofs.Numbered.{splitting}
+use Rattle.span_clusters.proofs.OneSlot.{all_weaker}
 
 -- what holds of the list that was cut holds of the jobs that were made of it
 pub if_cut : {P E : Type 0} {Q : List P → Type 0} {drafts : List P} (r : Result (Vec P Global) E) → IfOk r (λ jobs. jobs.items ≡ drafts) → ((jobs : List P) → jobs ≡ drafts → Q jobs) → IfOk r (λ jobs. Q jobs.items)
@@ -18,6 +20,22 @@ take_all : {X : Type 0} (P : X → Type 0) (k : ℕ) (xs : List X) → AllByRecu
 take_all P zero xs h = tt
 take_all P (suc k) [] h = tt
 take_all P (suc k) (x ∷ xs) h = (h.0, take_all P k xs h.1)
+
+cut_in_two : (n k : ℕ) (given : List ℕ) → Contains given k → Contains (take n given) k ⊎ Contains (drop n given) k
+cut_in_two zero k given c = inr c
+cut_in_two (suc n) k [] c = absurd (omega (arith, c.1))
+cut_in_two (suc n) k (j ∷ given) c = elim (contains_cons j k given c) [
+  | inl e ↦ inl (contains_first j k (take n given) e)
+  | inr d ↦ elim (cut_in_two n k given d) [ inl a ↦ inl (contains_later j k (take n given) a) | inr b ↦ inr b ]
+]
+
+-- a number that was given was given to a member or to an item
+of_either : (n k : ℕ) (given members items : List ℕ) → members ≡ take n given → items ≡ drop n given → (k ≡ 0) ⊎ Contains given k → IsUsed members items k
+of_either n k given members items m i (inl z) = inl z
+of_either n k given members items m i (inr c) = elim (cut_in_two n k given c) [
+  | inl a ↦ inr (inl (subst (λ (ks : List ℕ). Contains ks k) (sym m) a))
+  | inr b ↦ inr (inr (subst (λ (ks : List ℕ). Contains ks k) (sym i) b))
+]
 
 module _ {S I : Type 0} (picked : S → List ℕ → (ℕ → Bool) → S) (s : S) (xs : List I) (members items : List ℕ) where
   abbrev cut : List ℕ → List (Part S I)
@@ -60,6 +78,8 @@ module _ {S I : Type 0} (picked : S → List ℕ → (ℕ → Bool) → S) (s : 
       each_item = li;
       members_there = subst₂ (λ (ks js : List ℕ). AllByRecursion (Contains ks) js) (sym numbers_are) (sym m) (take_all (Contains parts) (count s) given used.there);
       items_there = subst₂ (λ (ks js : List ℕ). AllByRecursion (Contains ks) js) (sym numbers_are) (sym i) (drop_all (Contains parts) (count s) given used.there);
+      used = subst (AllByRecursion (IsUsed members items)) (sym numbers_are)
+          (all_weaker (λ k. (k ≡ 0) ⊎ Contains given k) (IsUsed members items) parts (λ k h. of_either (count s) k given members items m i h) used.used);
       made = made ∙ ap cut (sym numbers_are);
     }
 

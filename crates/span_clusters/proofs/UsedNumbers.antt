@@ -1,5 +1,5 @@
 -- The numbers of the parts that are used.
-use Rattle.std.proofs.Common.{◌≡◌, ◌≢◌, ◌∙◌, sym, refl, ℕ, zero, suc, ◌+◌, ◌<◌, ◌≤◌, List, [], ◌∷◌, ◌++◌, length, Bool, true, false, eqb, arith, subst, inl, inr}
+use Rattle.std.proofs.Common.{◌≡◌, ◌≢◌, sym, refl, ℕ, zero, suc, ◌+◌, ◌<◌, ◌≤◌, List, [], ◌∷◌, ◌++◌, length, Bool, true, false, eqb, arith, subst, inl, inr}
 use Rattle.std.specs.Prelude.{◌⊎◌, ◌||◌, Contains, All}
 use Rattle.std.specs.List.{AllByRecursion, list_any}
 use Rattle.std.proofs.lemmas.Bool.{eq-eqb, cases_lt}
@@ -15,6 +15,7 @@ pub record UsedBelow (given : List ℕ) (n : ℕ) (parts : List ℕ) : Type 0 wh
   pub some : 0 < n → 1 ≤ length parts
   pub differ : EachPair (λ i j. i ≢ j) parts
   pub there : (k : ℕ) → Contains given k → k < n → Contains parts k
+  pub used : AllByRecursion (λ k. (k ≡ 0) ⊎ Contains given k) parts
 
 length_snoc : {X : Type 0} (xs : List X) (x : X) → length (xs ++ x ∷ []) ≡ length xs + 1
 length_snoc [] x = refl
@@ -36,10 +37,10 @@ below_or : (k n : ℕ) → k < n + 1 → (k < n) ⊎ (k ≡ n)
 below_or k n l = elim (cases_lt k n) [ inl lt ↦ inl lt | inr le ↦ inr (omega (arith, le, l)) ]
 
 pub none_below : (given : List ℕ) → UsedBelow given 0 []
-none_below given = record { below = tt; few = omega arith; some = λ l. absurd (omega (arith, l)); differ = tt; there = λ k c l. absurd (omega (arith, l)) }
+none_below given = record { below = tt; few = omega arith; some = λ l. absurd (omega (arith, l)); differ = tt; there = λ k c l. absurd (omega (arith, l)); used = tt }
 
-pub used_one : (given : List ℕ) (n : ℕ) (parts : List ℕ) → UsedBelow given n parts → UsedBelow given (n + 1) (parts ++ n ∷ [])
-used_one given n parts u =
+pub used_one : (given : List ℕ) (n : ℕ) (parts : List ℕ) → (n ≡ 0) ⊎ Contains given n → UsedBelow given n parts → UsedBelow given (n + 1) (parts ++ n ∷ [])
+used_one given n parts t u =
     let more : length (parts ++ n ∷ []) ≡ length parts + 1 = length_snoc parts n in
     record {
       below = all_snoc (λ k. k < n + 1) parts n (higher n parts u.below) (omega arith);
@@ -50,6 +51,7 @@ used_one given n parts u =
         | inl m ↦ contains_left parts (n ∷ []) k (u.there k c m)
         | inr e ↦ contains_end parts n k (sym e)
       ];
+      used = all_snoc (λ k. (k ≡ 0) ⊎ Contains given k) parts n u.used t;
     }
 
 pub unused_one : (given : List ℕ) (n : ℕ) (parts : List ℕ) → (n ≡ 0 → ⊥) → (Contains given n → ⊥) → UsedBelow given n parts → UsedBelow given (n + 1) parts
@@ -62,6 +64,7 @@ unused_one given n parts z none u = record {
     | inl m ↦ u.there k c m
     | inr e ↦ absurd (none (subst (Contains given) e c))
   ];
+  used = u.used;
 }
   where
     above : (m : ℕ) → (m ≡ 0 → ⊥) → 0 < m
@@ -78,6 +81,7 @@ used_all given wish parts l below u = record {
   few = u.few;
   differ = u.differ;
   there = all_of given parts (Contains parts) (λ k c. u.there k c (below k c));
+  used = u.used;
 }
 
 pub all_below : (given : List ℕ) (wish : ℕ) → All (λ k. k < wish) given → (k : ℕ) → Contains given k → k < wish

@@ -63,7 +63,12 @@ filled_slots slot (p ∷ parts) = length (slots slot p.items) + filled_slots slo
 abbrev pub part_numbers : {S I : Type 0} → List (Part S I) → List ℕ
 part_numbers parts = map (λ p. p.number) parts
 
--- each member and each item has the number of a part, and each part has what bears its number
+-- the part is the first, or its number was given to a member or to an item
+abbrev pub IsUsed : List ℕ → List ℕ → ℕ → Type 0
+IsUsed of_members of_items part = (part ≡ 0) ⊎ (Contains of_members part ⊎ Contains of_items part)
+
+-- each member and each item has the number of a part, and each part has what bears its number; no part but the first
+-- has nothing
 pub record IsPartition {S I : Type 0} (count : S → ℕ) (picked : S → List ℕ → (ℕ → Bool) → S) (s : S) (xs : List I) (parts : List (Part S I)) : Type 0 where
   pub of_members : List ℕ
   pub of_items : List ℕ
@@ -71,11 +76,14 @@ pub record IsPartition {S I : Type 0} (count : S → ℕ) (picked : S → List �
   pub each_item : length of_items ≡ length xs
   pub members_there : AllByRecursion (Contains (part_numbers parts)) of_members
   pub items_there : AllByRecursion (Contains (part_numbers parts)) of_items
+  pub used : AllByRecursion (IsUsed of_members of_items) (part_numbers parts)
   pub made : parts ≡ map (numbered picked s xs of_members of_items) (part_numbers parts)
 
--- numbers of parts, of which there is one at least: they differ, and each number that was given is among them
+-- numbers of parts, of which there is one at least: they differ, each number that was given is among them, and each but
+-- 0 was given
 pub record AreUsed (given : List ℕ) (most : ℕ) (parts : List ℕ) : Type 0 where
   pub some : 1 ≤ length parts
   pub few : length parts ≤ most
   pub differ : EachPair (λ i j. i ≢ j) parts
   pub there : AllByRecursion (Contains parts) given
+  pub used : AllByRecursion (λ part. (part ≡ 0) ⊎ Contains given part) parts

@@ -133,20 +133,6 @@ impl<F: Fold> Done<F> {
         &self.items
     }
 
-    /// The state after each slot that the part fills.
-    pub fn states(&self) -> &[F::State]
-        ensures { result.now ≡ states F.next F.slot_of self.now.start self.now.items }
-    {
-        &self.states
-    }
-
-    /// The out of each slot that the part fills.
-    pub fn outs(&self) -> &[F::Out]
-        ensures { AreOutsOf F.next F.slot_of F.is_out self.now.start self.now.items result.now }
-    {
-        &self.outs
-    }
-
     /// All that the part is and gave, by move: its members before the span, its items, and the
     /// state and the out of each slot that they fill.
     pub fn into_run(self) -> (F::State, Vec<F::Item>, Vec<F::State>, Vec<F::Out>)

@@ -1,5 +1,5 @@
 // Two parts that cross, as one.
-ghost use Rattle.std.specs.Prelude.{◌≡◌, ◌≢◌, ◌+◌, ◌++◌, length, IfOk, OnErr, min};
+ghost use Rattle.std.specs.Prelude.{◌≡◌, ◌≢◌, ◌+◌, length, IfOk, OnErr, min};
 ghost use Rattle.std.specs.List.{AllByRecursion};
 ghost use Rattle.late_window.specs.Folding.{Rises, slots};
 ghost use Rattle.span_clusters.specs.Interleavings.{Interleaved, KeysDiffer};

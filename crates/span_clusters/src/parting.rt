@@ -143,8 +143,8 @@ fn all_charged<F: Fold, L: Ledger>(
 }
 
 /// A span as jobs, from one to `wish` of them, by the numbers that `choose` gives. Each member goes
-/// to one part, and so does each item; a part that would have neither is left out. The counter rises
-/// by the slots that the parts fill; where memory is wanting it stays.
+/// to one part, and so does each item; a part but the first that would have neither is left out. The
+/// counter rises by the slots that the parts fill; where memory is wanting it stays.
 pub fn partition<F: Separable, L: Ledger>(
     alloc: Global,
     state: &F::State,

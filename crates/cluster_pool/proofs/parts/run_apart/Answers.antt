@@ -1,4 +1,4 @@
-use Rattle.std.proofs.Common.{◌≡◌, ◌≤◌, ◌+◌, ◌++◌, length, rules}
+use Rattle.std.proofs.Common.{◌≡◌, ◌++◌, length, rules}
 use Rattle.span_clusters.proofs.Separating.{Separating}
 use Rattle.cluster_pool.proofs.TakenOut.{cross_numbers, none_cross, some_before, empty_lacks}
 use Rattle.cluster_pool.proofs.WholeRuns.{kept_first, kept_parts, kept_bound, kept_joined, kept_failed}

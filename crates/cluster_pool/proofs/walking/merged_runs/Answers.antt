@@ -1,4 +1,4 @@
-use Rattle.std.proofs.Common.{◌≡◌, ◌∙◌, ◌≤◌, ◌++◌, ◌∷◌, [], length, subst, subst₂, rules}
+use Rattle.std.proofs.Common.{◌≡◌, ◌∙◌, ◌≤◌, ◌++◌, ◌∷◌, [], length, subst₂, rules}
 use Rattle.late_window.specs.Folding.{states, AreOutsOf}
 use Rattle.cluster_pool.proofs.Ways.{one_part}
 use Rattle.cluster_pool.proofs.walking.merged_runs.Goals as goal

@@ -1,4 +1,4 @@
-use Rattle.std.proofs.Common.{◌≡◌, ◌≢◌, rules}
+use Rattle.std.proofs.Common.{◌≢◌, rules}
 use Rattle.span_clusters.specs.Parts.{ReachesPart}
 use Rattle.span_clusters.proofs.FoundPairs.{one_more}
 use Rattle.span_clusters.proofs.crossing.add_pair.Goals as goal

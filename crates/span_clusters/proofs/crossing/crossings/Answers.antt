@@ -1,4 +1,4 @@
-use Rattle.std.proofs.Common.{◌≡◌, ◌∙◌, ◌+◌, ◌<◌, ◌≤◌, ◌++◌, ◌∷◌, [], length, rules, take}
+use Rattle.std.proofs.Common.{◌≡◌, ◌+◌, ◌<◌, ◌≤◌, ◌++◌, ◌∷◌, [], length, rules, take}
 use Rattle.span_clusters.proofs.FoundPairs.{adds_up, some_more, take_more, take_whole, all_told}
 use Rattle.span_clusters.proofs.crossing.crossings.Goals as goal
 

@@ -11,7 +11,7 @@ loop-part-preserved c =
     elim c.if-is_used.branch [
       | then-is_used+in_ok-push w ↦
           let pushed : c.if-is_used.parts.items ≡ parts ++ n ∷ [] = search rules in
-          rw pushed (used_one given n parts c.loop-part.invariant)
+          rw pushed (used_one given n parts (c.is_used.ensures.0 w.if-is_used.true) c.loop-part.invariant)
       | else-is_used w ↦
           let same : c.if-is_used.parts.items ≡ parts = search rules in
           rw same (unused_one given n parts (λ e. let t = c.is_used.ensures.1 (inl e) in let f = w.if-is_used.false in cc) (λ e. let t = c.is_used.ensures.1 (inr e) in let f = w.if-is_used.false in cc) c.loop-part.invariant)
