@@ -4,7 +4,7 @@ use Rattle.std.specs.List.{flat_map}
 use Rattle.price_form.specs.Encoding.{price_record_octets}
 use Rattle.price_form.specs.Files.{magic, StopsAt, IsPriceFault}
 use Rattle.price_form.specs.Reading.{Stands}
-use Rattle.price_form.specs.Prefixes.{IsWrong, IsPrefixFault, begins_otherwise, in_magic, is_whole, is_wrong, is_cut_short}
+use Rattle.price_form.specs.Prefixes.{IsWrong, IsPrefixFault, begins_otherwise, in_magic, is_whole, is_wrong, is_truncated}
 use Rattle.price_form.proofs.Standing.{stands_second}
 use Rattle.price_form.proofs.OneFile.{at_front, same_fault, not_both}
 use Rattle.price_form.proofs.GoesOn.{wrong_on}
@@ -17,7 +17,7 @@ otherwise_only prefix q h (begins_otherwise k e) = e
 otherwise_only prefix q h (in_magic more e f) = absurd (h more [] e)
 otherwise_only prefix q h (is_whole rs a e) = absurd (h [] _ (append-nil prefix ∙ a.encoded))
 otherwise_only prefix q h (is_wrong s w) = absurd (h [] _ (append-nil prefix ∙ s.encoded))
-otherwise_only prefix q h (is_cut_short place s fine e) = absurd (h [] _ (append-nil prefix ∙ s.encoded))
+otherwise_only prefix q h (is_truncated place s fine e) = absurd (h [] _ (append-nil prefix ∙ s.encoded))
 
 wrong_only : (prefix : List ℕ) (p q : ℕ) → StopsAt prefix p → IsWrong prefix p → IsPrefixFault prefix q → q ≡ p
 wrong_only prefix p q s w (begins_otherwise h e) = absurd (h [] _ (append-nil prefix ∙ s.encoded))
@@ -26,21 +26,21 @@ wrong_only prefix p q s w (in_magic more e f) =
     absurd (omega (arith, s.stops.some_left, ap length e, ap length s.encoded, length-append prefix more, length-append magic after, length-append (flat_map price_record_octets s.records) s.rest))
 wrong_only prefix p q s w (is_whole rs a e) = absurd (not_both prefix rs p a (inr s))
 wrong_only prefix p q s w (is_wrong t v) = same_fault prefix q p (inr t) (inr s)
-wrong_only prefix p q s w (is_cut_short place t fine e) = absurd (fine (subst (IsWrong prefix) (same_fault prefix p place (inr s) (inr t)) w))
+wrong_only prefix p q s w (is_truncated place t fine e) = absurd (fine (subst (IsWrong prefix) (same_fault prefix p place (inr s) (inr t)) w))
 
 end_only : (prefix : List ℕ) (p q : ℕ) → IsPrefixFault prefix p → p ≡ length prefix → IsPrefixFault prefix q → p ≡ q
 end_only prefix p q f at_end (begins_otherwise h e) = otherwise_only prefix p h f ∙ sym e
 end_only prefix p q f at_end (in_magic more e g) = at_end ∙ sym g
 end_only prefix p q f at_end (is_whole rs a e) = at_end ∙ sym e
 end_only prefix p q f at_end (is_wrong s w) = wrong_only prefix q p s w f
-end_only prefix p q f at_end (is_cut_short place s fine e) = at_end ∙ sym e
+end_only prefix p q f at_end (is_truncated place s fine e) = at_end ∙ sym e
 
 pub one_fault : (prefix : List ℕ) (p q : ℕ) → IsPrefixFault prefix p → IsPrefixFault prefix q → p ≡ q
 one_fault prefix p q (begins_otherwise h e) g = e ∙ sym (otherwise_only prefix q h g)
 one_fault prefix p q (in_magic more e f) g = end_only prefix p q (in_magic more e f) f g
 one_fault prefix p q (is_whole rs a e) g = end_only prefix p q (is_whole rs a e) e g
 one_fault prefix p q (is_wrong s w) g = sym (wrong_only prefix p q s w g)
-one_fault prefix p q (is_cut_short place s fine e) g = end_only prefix p q (is_cut_short place s fine e) e g
+one_fault prefix p q (is_truncated place s fine e) g = end_only prefix p q (is_truncated place s fine e) e g
 
 -- ---- it stays
 
@@ -70,4 +70,4 @@ fault_stays prefix more p (begins_otherwise h e) lt = inl ((λ rest f. h more re
 fault_stays prefix more p (in_magic more' e f) lt = absurd (omega (arith, lt, f))
 fault_stays prefix more p (is_whole rs a e) lt = absurd (omega (arith, lt, e))
 fault_stays prefix more p (is_wrong s w) lt = inr (stops_on prefix more p s w lt)
-fault_stays prefix more p (is_cut_short place s fine e) lt = absurd (omega (arith, lt, e))
+fault_stays prefix more p (is_truncated place s fine e) lt = absurd (omega (arith, lt, e))

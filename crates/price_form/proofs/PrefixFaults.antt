@@ -12,10 +12,10 @@ use Rattle.price_form.specs.Octets.{word_at}
 use Rattle.price_form.specs.Encoding.{price_record_octets}
 use Rattle.price_form.specs.Files.{magic, IsRecord, StandFrom, ArePrices, StopsAt, IsPriceFault}
 use Rattle.price_form.specs.Reading.{NoRecord, ReadsRecord, cert_end}
-use Rattle.price_form.specs.Prefixes.{HasWrongNumber, IsWrong, IsPrefixFault, begins_otherwise, in_magic, is_whole, is_wrong, is_cut_short, HasPrefixFault}
+use Rattle.price_form.specs.Prefixes.{HasWrongNumber, IsWrong, IsPrefixFault, begins_otherwise, in_magic, is_whole, is_wrong, is_truncated, HasPrefixFault}
 use Rattle.price_form.proofs.Standing.{AreOctets}
 use Rattle.price_form.proofs.Filed.{no_edition, no_cert, no_other, edition_read, one_record, stops_here, whole_file}
-use Rattle.price_form.proofs.ReadSteps.{cut_short}
+use Rattle.price_form.proofs.ReadSteps.{truncated}
 use Rattle.price_form.proofs.Decided.{dec_number}
 use Rattle.price_form.proofs.FineNumbers.{ReadsSome, formed_fine, reads_fine}
 
@@ -116,7 +116,7 @@ dec_record xs p o =
           elim (cases_eq (get_or xs p 0) 2) [
             | inl two ↦
                 elim (cases_lt (length xs) (cert_end xs p)) [
-                  | inl lt ↦ inr (no_cert xs p two (cut_short xs p lt))
+                  | inl lt ↦ inr (no_cert xs p two (truncated xs p lt))
                   | inr le ↦
                       elim (dec_number xs p) [
                         | inl w ↦ inr (no_cert xs p two (λ le' f q. formed_fine xs p f q w))
@@ -140,7 +140,7 @@ run (suc n) bytes o at le b =
             | inr none ↦
                 elim (dec_wrong bytes at) [
                   | inl w ↦ record { offset = at; fault = is_wrong (begun_stops bytes at b lt none) w }
-                  | inr fine ↦ record { offset = length bytes; fault = is_cut_short at (begun_stops bytes at b lt none) fine refl }
+                  | inr fine ↦ record { offset = length bytes; fault = is_truncated at (begun_stops bytes at b lt none) fine refl }
                 ]
           ]
     ]
@@ -179,4 +179,4 @@ file_or_fault bytes o = sorted bytes (some_fault bytes o).offset (some_fault byt
   sorted bytes p (in_magic (m ∷ ms) e f) = inr (0, inl ((λ rest g. omega (arith, ap length e, ap length g, length-append bytes (m ∷ ms), length-append magic rest)), refl))
   sorted bytes p (is_whole rs a e) = inl (rs, a)
   sorted bytes p (is_wrong s w) = inr (p, inr s)
-  sorted bytes p (is_cut_short place s fine e) = inr (place, inr s)
+  sorted bytes p (is_truncated place s fine e) = inr (place, inr s)

@@ -18,8 +18,8 @@ pub one_more : {X : Type 0} (r : List ℕ → ℕ → X) (s : ℕ) (xs : List �
 unfolding many_at
 one_more r s xs p n {now} {after} {y} h e f = f ∙ (λ j. h j ++ e j ∷ []) ∙ sym (map-range_with_len_more (λ i. r xs (p + i * s)) 0 n n (omega arith))
 
-pub cut_short : (xs : List ℕ) (p : ℕ) → length xs < cert_end xs p → ReadsNone xs p
-cut_short xs p lt le f q = omega (arith, lt, le)
+pub truncated : (xs : List ℕ) (p : ℕ) → length xs < cert_end xs p → ReadsNone xs p
+truncated xs p lt le f q = omega (arith, lt, le)
 
 pub no_plots : (xs : List ℕ) (p : ℕ) → plots_at xs p ≡ 0 → ReadsNone xs p
 unfolding cert_read

@@ -65,7 +65,7 @@ pub data IsPrefixFault (prefix : List ℕ) (offset : ℕ) : Type 0 where
   in_magic : (more : List ℕ) → prefix ++ more ≡ magic → offset ≡ length prefix → IsPrefixFault prefix offset
   is_whole : (records : List PriceRecord) → ArePrices prefix records → offset ≡ length prefix → IsPrefixFault prefix offset
   is_wrong : StopsAt prefix offset → IsWrong prefix offset → IsPrefixFault prefix offset
-  is_cut_short : (place : ℕ) → StopsAt prefix place → (IsWrong prefix place → ⊥) → offset ≡ length prefix → IsPrefixFault prefix offset
+  is_truncated : (place : ℕ) → StopsAt prefix place → (IsWrong prefix place → ⊥) → offset ≡ length prefix → IsPrefixFault prefix offset
 
 pub record HasPrefixFault (prefix : List ℕ) : Type 0 where
   pub offset : ℕ

@@ -1,5 +1,6 @@
 // Numbers in octets, the highest octet first.
-ghost use Rattle.std.specs.Prelude.{◌≡◌, ◌≤◌, ◌+◌, ◌*◌, ◌++◌, List, IfOk, OnOk, length};
+ghost use Rattle.std.specs.Prelude.{◌≡◌, ◌≤◌, ◌+◌, ◌*◌, ◌++◌, List, IfOk, OnOk, OnErr, length};
+ghost use Rattle.std.specs.Io.{StartsWith};
 ghost use Rattle.std.specs.List.{flat_map};
 ghost use Rattle.price_form.specs.Octets.{short_at, half_at, word_at, price_number_at, edge_numbers_at, entry_number_at, many_at, word_octets, price_octets, edge_octets, entry_octets};
 
@@ -141,7 +142,8 @@ pub(crate) fn entries_at(
 
 /// Puts numbers at the end, eight octets each.
 pub(crate) fn put_words(out: &mut Vec<u8>, words: &[u64]) -> Result<(), NoMemory>
-    ensures { OnOk result (out.new.items ≡ out.old.items ++ flat_map word_octets words.now) }
+    ensures ok { OnOk result (out.new.items ≡ out.old.items ++ flat_map word_octets words.now) }
+    ensures err { OnErr result (StartsWith out.new.items out.old.items) }
 {
     for word in words {
         out.extend_from_slice(&word.to_be_bytes())?;
@@ -150,7 +152,8 @@ pub(crate) fn put_words(out: &mut Vec<u8>, words: &[u64]) -> Result<(), NoMemory
 }
 
 fn put_price(out: &mut Vec<u8>, price: i64) -> Result<(), NoMemory>
-    ensures { OnOk result (out.new.items ≡ out.old.items ++ price_octets price) }
+    ensures ok { OnOk result (out.new.items ≡ out.old.items ++ price_octets price) }
+    ensures err { OnErr result (out.new.items ≡ out.old.items) }
 {
     out.extend_from_slice(&price.cast_unsigned().to_be_bytes())?;
     Ok(())
@@ -158,7 +161,8 @@ fn put_price(out: &mut Vec<u8>, price: i64) -> Result<(), NoMemory>
 
 /// Puts prices at the end.
 pub(crate) fn put_prices(out: &mut Vec<u8>, prices: &[i64]) -> Result<(), NoMemory>
-    ensures { OnOk result (out.new.items ≡ out.old.items ++ flat_map price_octets prices.now) }
+    ensures ok { OnOk result (out.new.items ≡ out.old.items ++ flat_map price_octets prices.now) }
+    ensures err { OnErr result (StartsWith out.new.items out.old.items) }
 {
     for price in prices {
         put_price(out, *price)?;
@@ -168,7 +172,8 @@ pub(crate) fn put_prices(out: &mut Vec<u8>, prices: &[i64]) -> Result<(), NoMemo
 
 /// Puts edges at the end.
 pub(crate) fn put_edges(out: &mut Vec<u8>, edges: &[(u32, u32, u16)]) -> Result<(), NoMemory>
-    ensures { OnOk result (out.new.items ≡ out.old.items ++ flat_map edge_octets edges.now) }
+    ensures ok { OnOk result (out.new.items ≡ out.old.items ++ flat_map edge_octets edges.now) }
+    ensures err { OnErr result (StartsWith out.new.items out.old.items) }
 {
     for (plot, track, cost) in edges {
         out.extend_from_slice(&plot.to_be_bytes())?;
@@ -180,7 +185,8 @@ pub(crate) fn put_edges(out: &mut Vec<u8>, edges: &[(u32, u32, u16)]) -> Result<
 
 /// Puts the places of tracks, or none, at the end.
 pub(crate) fn put_entries(out: &mut Vec<u8>, entries: &[Option<u32>]) -> Result<(), NoMemory>
-    ensures { OnOk result (out.new.items ≡ out.old.items ++ flat_map entry_octets entries.now) }
+    ensures ok { OnOk result (out.new.items ≡ out.old.items ++ flat_map entry_octets entries.now) }
+    ensures err { OnErr result (StartsWith out.new.items out.old.items) }
 {
     for entry in entries {
         out.extend_from_slice(&entry.unwrap_or(NONE).to_be_bytes())?;

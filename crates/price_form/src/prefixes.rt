@@ -138,7 +138,7 @@ fn is_wrong(octets: &[u8], at: usize) -> bool
 ///
 /// It is told at the first octet of a record, where a number that stands whole in the prefix is
 /// wrong, and at 0 where the prefix doesn't begin as the four octets do. Else it is the prefix's end:
-/// where whole records end there, and where a record is cut short by it. The records are judged
+/// where whole records end there, and where a record is truncated by it. The records are judged
 /// where they stand, so no memory is asked for.
 pub fn prefix_fault(prefix: &[u8]) -> usize
     ensures { IsPrefixFault prefix.now result }

@@ -256,7 +256,7 @@ fn record_at(
 /// The records of a price file.
 ///
 /// A fault is told at the first octet of the first record that is none: where its first octet is
-/// another than `01` and `02`, where it is cut short, has no plots or `FFFFFFFF` tracks, an edge's
+/// another than `01` and `02`, where it is truncated, has no plots or `FFFFFFFF` tracks, an edge's
 /// place out of range, a cost above 4,096, edges that don't strictly rise, or a paired track that
 /// is neither `FFFFFFFF` nor in range. Another beginning than the four octets is a fault at 0.
 /// No more memory is asked for than a record's octets are there for.

@@ -1,10 +1,12 @@
 // The records of a price file, written.
-ghost use Rattle.std.specs.Prelude.{◌≡◌, ◌<◌, ◌^◌, ◌++◌, List, All, IfOk, OnOk, length};
+ghost use Rattle.std.specs.Prelude.{◌≡◌, ◌<◌, ◌^◌, ◌++◌, List, All, IfOk, OnOk, OnErr, length};
+ghost use Rattle.std.specs.Io.{StartsWith};
 ghost use Rattle.std.specs.List.{flat_map};
 ghost use Rattle.std.specs.Int.{w32, w64, to_be_bytes};
 ghost use Rattle.price_form.specs.Certificates.{IsCert};
 ghost use Rattle.price_form.specs.declared.certs.PriceRecord.{PriceRecord};
 ghost use Rattle.price_form.specs.declared.certs.PriceRecord.TheVariants.{Edition};
+ghost use Rattle.price_form.specs.Octets.{edge_octets};
 ghost use Rattle.price_form.specs.Encoding.{head_octets, gate_octets, proof_octets, cert_octets, price_record_octets};
 ghost use Rattle.price_form.specs.Files.{magic, IsRecord, StandFrom, ArePrices};
 
@@ -19,14 +21,16 @@ use trk_base::NoMemory;
 pub const USUAL_RECORD: usize = 68;
 
 fn put_word(out: &mut Vec<u8>, number: u64) -> Result<(), NoMemory>
-    ensures { OnOk result (out.new.items ≡ out.old.items ++ to_be_bytes w64 number) }
+    ensures ok { OnOk result (out.new.items ≡ out.old.items ++ to_be_bytes w64 number) }
+    ensures err { OnErr result (out.new.items ≡ out.old.items) }
 {
     out.extend_from_slice(&number.to_be_bytes())?;
     Ok(())
 }
 
 fn put_half(out: &mut Vec<u8>, number: u32) -> Result<(), NoMemory>
-    ensures { OnOk result (out.new.items ≡ out.old.items ++ to_be_bytes w32 number) }
+    ensures ok { OnOk result (out.new.items ≡ out.old.items ++ to_be_bytes w32 number) }
+    ensures err { OnErr result (out.new.items ≡ out.old.items) }
 {
     out.extend_from_slice(&number.to_be_bytes())?;
     Ok(())
@@ -40,13 +44,25 @@ fn put_head(
     plots: u32,
     tracks: u32,
 ) -> Result<(), NoMemory>
-    ensures { OnOk result (out.new.items ≡ out.old.items ++ head_octets slot radar plots tracks) }
+    ensures ok { OnOk result (out.new.items ≡ out.old.items ++ head_octets slot radar plots tracks) }
+    ensures err { OnErr result (StartsWith out.new.items out.old.items) }
 {
     out.push(2)?;
     put_word(out, slot)?;
     out.push(radar)?;
     put_half(out, plots)?;
     put_half(out, tracks)
+}
+
+// The gates between its plots and its tracks, after their number.
+fn put_counted_edges(out: &mut Vec<u8>, edges: &[(u32, u32, u16)]) -> Result<(), NoMemory>
+    requires { length edges.now < 2 ^ 32 }
+    ensures ok { OnOk result (out.new.items ≡ out.old.items ++ (to_be_bytes w32 (length edges.now) ++ flat_map edge_octets edges.now)) }
+    ensures err { OnErr result (StartsWith out.new.items out.old.items) }
+{
+    put_half(out, edges.len() as u32)?;
+    put_edges(out, edges)?;
+    Ok(())
 }
 
 // Which plots and tracks it has, and the gates between them.
@@ -57,12 +73,13 @@ fn put_gates(
     edges: &[(u32, u32, u16)],
 ) -> Result<(), NoMemory>
     requires { length edges.now < 2 ^ 32 }
-    ensures { OnOk result (out.new.items ≡ out.old.items ++ gate_octets plots.now tracks.now edges.now) }
+    ensures ok { OnOk result (out.new.items ≡ out.old.items ++ gate_octets plots.now tracks.now edges.now) }
+    ensures err { OnErr result (StartsWith out.new.items out.old.items) }
 {
     put_words(out, plots)?;
     put_words(out, tracks)?;
-    put_half(out, edges.len() as u32)?;
-    put_edges(out, edges)
+    put_counted_edges(out, edges)?;
+    Ok(())
 }
 
 // The pairing, and the prices.
@@ -72,7 +89,8 @@ fn put_proof(
     u: &[i64],
     v: &[i64],
 ) -> Result<(), NoMemory>
-    ensures { OnOk result (out.new.items ≡ out.old.items ++ proof_octets pairing.now u.now v.now) }
+    ensures ok { OnOk result (out.new.items ≡ out.old.items ++ proof_octets pairing.now u.now v.now) }
+    ensures err { OnErr result (StartsWith out.new.items out.old.items) }
 {
     put_entries(out, pairing)?;
     put_prices(out, u)?;
@@ -97,10 +115,11 @@ pub fn write_edition(alloc: Global, number: u64, cut: u64) -> Result<Vec<u8>, No
     Ok(out)
 }
 
-/// Puts a certificate's record of a price file at the end.
-pub fn put_cert(out: &mut Vec<u8>, cert: &Cert) -> Result<(), NoMemory>
+// The parts of a certificate's record, one after the other.
+fn put_parts(out: &mut Vec<u8>, cert: &Cert) -> Result<(), NoMemory>
     requires { IsCert cert.now }
-    ensures { OnOk result (out.new.items ≡ out.old.items ++ cert_octets cert.now) }
+    ensures ok { OnOk result (out.new.items ≡ out.old.items ++ cert_octets cert.now) }
+    ensures err { OnErr result (StartsWith out.new.items out.old.items) }
 {
     put_head(
         out,
@@ -121,6 +140,21 @@ pub fn put_cert(out: &mut Vec<u8>, cert: &Cert) -> Result<(), NoMemory>
         cert.u.as_slice(),
         cert.v.as_slice(),
     )?;
+    Ok(())
+}
+
+/// Puts a certificate's record of a price file at the end. Without memory the octets are as they
+/// were.
+pub fn put_cert(out: &mut Vec<u8>, cert: &Cert) -> Result<(), NoMemory>
+    requires { IsCert cert.now }
+    ensures ok { OnOk result (out.new.items ≡ out.old.items ++ cert_octets cert.now) }
+    ensures err { OnErr result (out.new.items ≡ out.old.items) }
+{
+    let kept = out.len();
+    if put_parts(out, cert).is_err() {
+        out.truncate(kept);
+        return Err(NoMemory);
+    }
     Ok(())
 }
 

@@ -9,4 +9,4 @@ loop-price-preserved c =
     let i = c.loop-price.price-index in
     let prices = c.args.prices.now in
     let fits : FitsSigned w64 (get_or prices i (pos 0)) = search rules in
-    price_more c.args.out.now.items prices i c.loop-price-test.true fits c.loop-price.invariant c.in_ok-put_price.ensures
+    price_more c.args.out.now.items prices i c.loop-price-test.true fits c.loop-price.invariant c.in_ok-put_price.ensures.ok

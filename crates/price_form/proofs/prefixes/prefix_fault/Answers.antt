@@ -1,5 +1,5 @@
 use Rattle.std.proofs.Common.{arith, refl}
-use Rattle.price_form.specs.Prefixes.{is_wrong, is_cut_short}
+use Rattle.price_form.specs.Prefixes.{is_wrong, is_truncated}
 use Rattle.price_form.proofs.PrefixFaults.{begun_on, begun_stops, begun_whole, magic_prefix}
 use Rattle.price_form.proofs.prefixes.prefix_fault.Goals as goal
 
@@ -10,7 +10,7 @@ pub returns-in-None : goal.returns-in-None
 returns-in-None c = is_wrong (begun_stops c.args.prefix.now c.loop-at.at c.loop-at.invariant c.loop-at-test.true c.in-None.ensures) c.if-is_wrong.ensures
 
 pub returns-in-None-2 : goal.returns-in-None-2
-returns-in-None-2 c = is_cut_short c.loop-at.at (begun_stops c.args.prefix.now c.loop-at.at c.loop-at.invariant c.loop-at-test.true c.in-None.ensures) c.if-is_wrong.ensures refl
+returns-in-None-2 c = is_truncated c.loop-at.at (begun_stops c.args.prefix.now c.loop-at.at c.loop-at.invariant c.loop-at-test.true c.in-None.ensures) c.if-is_wrong.ensures refl
 
 pub loop-at-smaller : goal.loop-at-smaller
 loop-at-smaller c =
