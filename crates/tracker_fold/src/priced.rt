@@ -53,14 +53,6 @@ impl PricedCerts {
     {
         &self.octets
     }
-
-    /// The certificates, where what is written of them isn't wanted any more.
-    pub fn into_certs(self) -> Sequence<KeyedCert>
-        ensures { result ≡ self }
-    {
-        let PricedCerts { certs, .. } = self;
-        certs
-    }
 }
 
 // The records of certificates, one after the other.
