@@ -1,7 +1,7 @@
 // Which tracks are shown.
 ghost use Rattle.std.specs.Prelude.{◌≡◌, List, map, filter, IfOk};
 ghost use Rattle.trk_base.specs.Numbers.{slot_of};
-ghost use Rattle.track_life.specs.Tables.{is_kept, keep, unexpired};
+ghost use Rattle.track_life.specs.Tables.{unexpired};
 ghost use Rattle.edition_form.specs.Pictures.{AreEarlier, is_shown, shown_tracks};
 ghost use Rattle.edition_form.specs.Lines.{lines_of, shown_line};
 ghost use Rattle.edition_form.specs.Showing.{shown_number};
@@ -51,28 +51,9 @@ fn collect_lines(
 fn shown_number(track: &Track, slot: u64, life: &LifeSettings) -> Option<u16>
     ensures { result ≡ shown_number life.now slot track.now }
 {
-    if track.confirmed && is_kept(track, slot, life) {
+    if track.confirmed && track.is_kept(slot, life) {
         track.number
     } else {
         None
-    }
-}
-
-// Whether a track hasn't expired at the start of a slot.
-fn is_kept(track: &Track, slot: u64, life: &LifeSettings) -> bool
-    ensures { result ≡ is_kept life.now slot track.now }
-{
-    64 * u128::from(slot)
-        <= u128::from(track.aim.time) + 128 * u128::from(keep(track.confirmed, life))
-}
-
-// For how many seconds a track is kept without a plot.
-fn keep(confirmed: bool, life: &LifeSettings) -> u8
-    ensures { result ≡ keep life.now confirmed }
-{
-    if confirmed {
-        life.keep_confirmed
-    } else {
-        life.keep_tentative
     }
 }
