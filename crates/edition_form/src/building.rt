@@ -1,4 +1,4 @@
-// How an edition is built.
+// How what an edition shows is made.
 ghost use Rattle.std.specs.Prelude.{◌≡◌, ◌%◌, length, IfOk};
 ghost use Rattle.trk_base.specs.Numbers.{day};
 ghost use Rattle.edition_form.specs.Pictures.{AreEarlier, HaveOwnNumbers, picture};
@@ -8,11 +8,10 @@ ghost use Rattle.edition_form.specs.Datagrams.{ArePictured, lines_in};
 use crate::datagrams::datagrams;
 use crate::picture::shown_lines;
 use crate::radars::radar_lines;
-use crate::{Built, Edition, Pictured, ShownLine};
+use crate::{Pictured, ShownLine};
 use admission_log::Settings;
 use cat062_out::Stamp;
 use plot_geometry::Bias;
-use price_form::Cert;
 use std::alloc::Global;
 use track_life::Table;
 use trk_base::{DAY, NoMemory, Sequence};
@@ -51,56 +50,6 @@ pub fn pictured(
     Ok(Pictured {
         datagrams,
         shown: Sequence::of(shown),
-    })
-}
-
-/// The edition of what is shown at a time, and the lines of the tracks that it shows, as
-/// [`pictured`] gives them.
-///
-/// `cut` is how many events it shows, and `before` the cut of the edition before it. `certs` go into
-/// the edition as they are.
-///
-/// Its one error is want of memory.
-pub fn build(
-    alloc: Global,
-    settings: &Settings,
-    biases: &[Bias],
-    table: &Table,
-    services: &[Option<u64>],
-    time: u64,
-    number: u64,
-    cut: u64,
-    before: u64,
-    old: &[ShownLine],
-    certs: Vec<Cert>,
-) -> Result<Built, NoMemory>
-    requires biases { length biases.now ≡ length settings.now.radars }
-    requires services { length services.now ≡ length settings.now.radars }
-    requires numbers { HaveOwnNumbers table.now }
-    requires earlier { AreEarlier time table.now }
-    requires old { RiseByNumber old.now }
-    ensures number { IfOk result (λ b. b.edition.number ≡ number) }
-    ensures cut { IfOk result (λ b. b.edition.cut ≡ cut) }
-    ensures before { IfOk result (λ b. b.edition.before ≡ before) }
-    ensures time { IfOk result (λ b. b.edition.time ≡ time) }
-    ensures datagrams { IfOk result (λ b. ArePictured settings.now (picture settings.now biases.now table.now services.now time) old.now number b.edition.datagrams) }
-    ensures certs { IfOk result (λ b. b.edition.certs ≡ certs.items) }
-    ensures shown { IfOk result (λ b. b.shown ≡ lines_in (picture settings.now biases.now table.now services.now time)) }
-    ensures rising { IfOk result (λ b. RiseByNumber b.shown) }
-{
-    let Pictured { datagrams, shown } = pictured(
-        alloc, settings, biases, table, services, time, number, old,
-    )?;
-    Ok(Built {
-        edition: Edition {
-            number,
-            cut,
-            before,
-            time,
-            datagrams,
-            certs: Sequence::of(certs),
-        },
-        shown,
     })
 }
 

@@ -26,7 +26,7 @@ pub fn one_rising_number<X>()
     ensures only { (number : X → ℕ) (xs ys : List X) → IsNonDecreasingBy number ys → IsStableByKey number nat_cmp xs ys → ys ≡ in_rising_number number xs }
 {}
 
-/// The tables of a legal log are what `build` asks for: no two tracks have one number, and each is
+/// The tables of a legal log are what `pictured` asks for: no two tracks have one number, and each is
 /// from before the slot, so from before the last tick.
 pub fn folded_tables()
     ensures numbers { (settings : Settings) (log : History) (slot : ℕ) → IsLegal settings log → HaveOwnNumbers (table_before settings log slot) }

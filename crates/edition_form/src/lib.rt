@@ -8,7 +8,7 @@
 //!
 //! `specs/` says what the edition of a finished log is: the fold of its plots to a table of tracks,
 //! what is shown of it, the lines and the datagrams, the certificates, and what a price file has of
-//! them. `build` makes one.
+//! them. `pictured` makes the datagrams of one.
 #![tactic(auto)]
 
 mod building;
@@ -22,7 +22,7 @@ mod telling;
 #[cfg(test)]
 mod tests;
 
-pub use building::{build, pictured};
+pub use building::pictured;
 pub use edition::{Built, Edition, Pictured};
 pub use laws::{folded_tables, one_edition, one_rising_number};
 pub use lines::ShownLine;

@@ -3,7 +3,7 @@ ghost use Rattle.std.specs.Prelude.{◌≡◌, ◌<◌, ◌≤◌, length, IfOk}
 ghost use Rattle.edition_form.specs.Pictures.{AreEarlier, HaveOwnNumbers};
 ghost use Rattle.edition_form.specs.Lines.{RiseByNumber};
 
-use crate::{Built, ShownLine, build};
+use crate::{Pictured, ShownLine, pictured};
 use admission_log::Settings;
 use plot_geometry::{Bias, PlanePlot, RadarSettings};
 use std::alloc::Global;
@@ -79,24 +79,24 @@ fn table(alloc: Global) -> Result<Table, NoMemory>
     Ok(Table::of(tracks))
 }
 
-// The edition of that number at a tick, with the last tick at the radar's newest service message.
+// What the edition of that number shows at a tick, with the last tick at the radar's newest service message.
 fn edition(
     alloc: Global,
     time: u64,
     number: u64,
     service: Option<u64>,
     old: &[ShownLine],
-) -> Result<Built, NoMemory>
+) -> Result<Pictured, NoMemory>
     requires time { 4608128 ≤ time }
     requires old { RiseByNumber old.now }
-    ensures { IfOk result (λ b. RiseByNumber b.shown) }
+    ensures { IfOk result (λ p. RiseByNumber p.shown) }
 {
     let bias = Bias {
         gain: 0,
         range: 0,
         azimuth: 0,
     };
-    build(
+    pictured(
         alloc,
         &settings(alloc)?,
         &[bias],
@@ -104,10 +104,7 @@ fn edition(
         &[service],
         time,
         number,
-        2,
-        0,
         old,
-        Vec::new(alloc),
     )
 }
 
@@ -233,8 +230,8 @@ fn is_told_after(alloc: Global, row: &Row, old: &[ShownLine]) -> Result<bool, No
     requires time { 4608128 ≤ row.now.time }
     requires old { RiseByNumber old.now }
 {
-    let built = edition(alloc, row.time, row.number, row.service, old)?;
-    Ok(are_octets(built.edition.datagrams.as_slice(), row.datagrams))
+    let told = edition(alloc, row.time, row.number, row.service, old)?;
+    Ok(are_octets(told.datagrams.as_slice(), row.datagrams))
 }
 
 fn are_octets(datagrams: &[Sequence<u8>], octets: &[&[u8]]) -> bool {

@@ -8,12 +8,12 @@ ghost use Rattle.station.specs.Tests.{PublishesNone};
 use super::START;
 use crate::{Conductor, Station};
 use admission_log::Settings;
-use edition_form::{Edition, build};
+use edition_form::{Edition, Pictured, pictured};
 use plot_geometry::RadarSettings;
 use std::alloc::Global;
 use std::sync::{Arc, Wait};
 use track_life::Table;
-use trk_base::NoMemory;
+use trk_base::{NoMemory, Sequence};
 
 // How many datagrams of an edition tell no track: the state of the radar, the state of the service
 // and the end of the batch.
@@ -29,7 +29,7 @@ fn edition_under(
     requires { settings.now.radars ≡ radar.now ∷ [] }
     ensures { IfOk result (IsEdition settings.now (record { start = 4608000; events = [] }) 0 number) }
 {
-    let built = build(
+    let Pictured { datagrams, .. } = pictured(
         alloc,
         settings,
         &[radar.bias()],
@@ -37,12 +37,16 @@ fn edition_under(
         &[None],
         START,
         number,
-        0,
-        0,
         &[],
-        Vec::new(alloc),
     )?;
-    Ok(built.edition)
+    Ok(Edition {
+        number,
+        cut: 0,
+        before: 0,
+        time: START,
+        datagrams,
+        certs: Sequence::new(alloc),
+    })
 }
 
 // .. where there is one radar.

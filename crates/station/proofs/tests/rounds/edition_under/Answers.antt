@@ -9,15 +9,15 @@ own_numbers : HaveOwnNumbers []
 unfolding IsDistinct
 own_numbers = tt
 
-pub build-requires-clause-numbers : goal.build-requires-clause-numbers
-build-requires-clause-numbers c = subst HaveOwnNumbers (sym c.empty.ensures) own_numbers
+pub pictured-requires-clause-numbers : goal.pictured-requires-clause-numbers
+pictured-requires-clause-numbers c = subst HaveOwnNumbers (sym c.empty.ensures) own_numbers
 
-pub build-requires-clause-earlier : goal.build-requires-clause-earlier
-build-requires-clause-earlier c = subst (AreEarlier 4608000) (sym c.empty.ensures) tt
+pub pictured-requires-clause-earlier : goal.pictured-requires-clause-earlier
+pictured-requires-clause-earlier c = subst (AreEarlier 4608000) (sym c.empty.ensures) tt
 
-pub build-requires-clause-old : goal.build-requires-clause-old
-build-requires-clause-old c = no_lines
+pub pictured-requires-clause-old : goal.pictured-requires-clause-old
+pictured-requires-clause-old c = no_lines
 
 pub returns : goal.returns
-returns c = let b = c.in_ok-built in
-    edition_of_none c.args.settings.now c.args.radar.now c.args.number b.built.edition _ c.empty.result _ _ c.requires (λ i. c.bias.ensures i ∷ []) c.empty.ensures refl c.new.ensures.items b.ensures.number b.ensures.cut b.ensures.before b.ensures.time b.ensures.datagrams b.ensures.certs
+returns c = let p = c.in_ok-datagrams in
+    edition_of_none c.args.settings.now c.args.radar.now c.args.number _ _ c.empty.result _ _ c.requires (λ i. c.bias.ensures i ∷ []) c.empty.ensures refl c.new.ensures refl refl refl refl p.ensures.datagrams refl
